@@ -1,0 +1,2 @@
+pub mod Edges
+pub mod Laws

@@ -1,0 +1,15 @@
+use mir.Facts.{toZ-ofZ, toZ-pos, sfits-widen}
+use mir.Syntax.{w32, w64}
+use mathlib.Core.Path.{_≡_, sym, _∙_}
+use Rattle.whole.proofs.Edges.{as-nat, above-is}
+use Rattle.whole.proofs.inner.above.Statement.{statement}
+use Rattle.whole.proofs.inner.above.Tie as tie
+
+cast-result : tie.Need-cast-result
+cast-result c = rw (toZ-ofZ (c .fits .x)) (as-nat _ (c .pre) (c .fits .x))
+
+returns : tie.Need-returns
+returns c = rw (toZ-ofZ (c .fits .x)) (above-is _ (c .pre) (c .fits .x))
+
+pub above-spec : {M : Type 1} → statement M
+above-spec = tie.close (tie.spec cast-result returns)

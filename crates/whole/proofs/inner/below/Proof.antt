@@ -1,0 +1,18 @@
+use mir.Facts.{toZ-ofZ, toZ-pos, sfits-widen}
+use mir.Syntax.{w32, w64}
+use mathlib.Core.Path.{_≡_, sym, _∙_}
+use Rattle.whole.proofs.Edges.{as-nat, below-low, below-fits, below-is, below-top}
+use Rattle.whole.proofs.inner.below.Statement.{statement}
+use Rattle.whole.proofs.inner.below.Tie as tie
+
+sub-result : tie.Need-sub-result
+sub-result c = rw (toZ-ofZ (c .fits .x)) (below-fits _ (c .pre) (c .fits .x))
+
+cast-result : tie.Need-cast-result
+cast-result c = rw (toZ-ofZ (sub-result c), toZ-ofZ (c .fits .x)) (as-nat _ (below-low _ (c .pre)) (below-fits _ (c .pre) (c .fits .x)))
+
+returns : tie.Need-returns
+returns c = rw (toZ-ofZ (sub-result c), toZ-ofZ (c .fits .x)) (below-is _ (c .pre), below-top _ (c .pre) (c .fits .x))
+
+pub below-spec : {M : Type 1} → statement M
+below-spec = tie.close (tie.spec sub-result cast-result returns)

@@ -1,0 +1,22 @@
+use borrow.Author.Needs.{needs}
+use mir.Facts.{toZ-ofZ, toZ-pos, sfits-widen}
+use mir.Syntax.{w32, w64}
+use mathlib.Core.Path.{_≡_, sym, _∙_}
+use Rattle.whole.proofs.Edges.{lowered-is, lowered-fits}
+use Rattle.whole.proofs.inner.lower.Statement.{statement}
+use Rattle.whole.proofs.inner.lower.Tie as tie
+
+cast-result : tie.Need-cast-result
+cast-result c = search needs
+
+cast-result-2 : tie.Need-cast-result-2
+cast-result-2 c = search needs
+
+sub-result : tie.Need-sub-result
+sub-result c = rw (toZ-pos w64 (c .pre .0), toZ-pos w64 (c .pre .1)) (lowered-fits _ _ (c .pre .0) (c .pre .1))
+
+returns : tie.Need-returns
+returns c = rw (toZ-ofZ (sub-result c), toZ-pos w64 (c .pre .0), toZ-pos w64 (c .pre .1)) (lowered-is _ _)
+
+pub lower-spec : {M : Type 1} → statement M
+lower-spec = tie.close (tie.spec cast-result cast-result-2 sub-result returns)

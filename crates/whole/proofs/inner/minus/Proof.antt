@@ -1,0 +1,19 @@
+use borrow.Author.Needs.{needs}
+use mir.Facts.{toZ-ofZ, toZ-pos, sfits-widen}
+use mir.Syntax.{w32, w64}
+use mathlib.Core.Path.{_≡_, sym, _∙_}
+use Rattle.whole.proofs.Edges.{minus-is, minus-fits}
+use Rattle.whole.proofs.inner.minus.Statement.{statement}
+use Rattle.whole.proofs.inner.minus.Tie as tie
+
+cast-result : tie.Need-cast-result
+cast-result c = search needs
+
+sub-result : tie.Need-sub-result
+sub-result c = rw (toZ-pos w64 (c .pre)) (minus-fits _ (c .pre))
+
+returns : tie.Need-returns
+returns c = rw (toZ-ofZ (sub-result c), toZ-pos w64 (c .pre)) (minus-is _)
+
+pub minus-spec : {M : Type 1} → statement M
+minus-spec = tie.close (tie.spec cast-result sub-result returns)
