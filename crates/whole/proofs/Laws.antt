@@ -11,7 +11,7 @@ use mathlib.Core.Logic.{_⊎_, inl, inr, ⊎-elim, _↔_}
 use mathlib.Core.Bool.{Bool, true, false, cond, not}
 use borrow.Author.Tests.{lt-ltb, le-ltb, le-leb, lt-leb, ltb-true, ltb-false, leb-true, leb-false}
 use lib.Dec.{T, ltb, leb, leb→le, le→leb, ltb→lt, lt→ltb}
-use lib.IntN.{ℤ, pos, negsuc, negℤ, subℕ, natAbs, _+ℤ_, _*ℤ_}
+use lib.IntN.{ℤ, pos, negsuc, negℤ, subℕ, natAbs, _+ℤ_, _-ℤ_, _*ℤ_}
 use lib.Signed.{ltZ, leZ, _≤ℤ_, _<ℤ_, mag, nonNeg}
 use mir.Syntax.{Width}
 use mir.Val.{SFits, toZ, ofZ, hbits}
@@ -82,6 +82,11 @@ sum-parts (negsuc a) (negsuc b) = of-negsuc (suc (a + b)) ∙ ⊖-same 0 (suc (s
 pub ⊖-add : (a b c d : ℕ) → (a ⊖ b) +ℤ (c ⊖ d) ≡ (a + c) ⊖ (b + d)
 ⊖-add a b c d = sum-parts (a ⊖ b) (c ⊖ d) ∙ ⊖-same _ _ _ _ (omega (arith, read-diff a b, read-diff c d))
 
+-- written with a numeral, such a difference computes, and `simp` does not see it: cite this instead
+pub less-one : (m : ℕ) → 1 ≤ m → pos m -ℤ pos 1 ≡ pos (m - 1)
+unfolding _⊖_
+less-one m h = ⊖-high m 1 h
+
 pub neg-pos : (n : ℕ) → negℤ (pos n) ≡ 0 ⊖ n
 neg-pos zero = of-pos 0
 neg-pos (suc n) = of-negsuc n
@@ -109,10 +114,13 @@ moved u v a b p q c d e f =
   where
     low-low : (k l : ℕ) → b ≡ a + k → v ≡ u + k → d ≡ c + l → q ≡ p + l → (u * p + v * q) + (a * d + b * c) ≡ (a * c + b * d) + (u * q + v * p)
     low-low k l e₁ e₂ e₃ e₄ = rw (e₁, e₂, e₃, e₄) (omega arith)
+
     low-high : (k l : ℕ) → b ≡ a + k → v ≡ u + k → c ≡ d + l → p ≡ q + l → (u * p + v * q) + (a * d + b * c) ≡ (a * c + b * d) + (u * q + v * p)
     low-high k l e₁ e₂ e₃ e₄ = rw (e₁, e₂, e₃, e₄) (omega arith)
+
     high-low : (k l : ℕ) → a ≡ b + k → u ≡ v + k → d ≡ c + l → q ≡ p + l → (u * p + v * q) + (a * d + b * c) ≡ (a * c + b * d) + (u * q + v * p)
     high-low k l e₁ e₂ e₃ e₄ = rw (e₁, e₂, e₃, e₄) (omega arith)
+
     high-high : (k l : ℕ) → a ≡ b + k → u ≡ v + k → c ≡ d + l → p ≡ q + l → (u * p + v * q) + (a * d + b * c) ≡ (a * c + b * d) + (u * q + v * p)
     high-high k l e₁ e₂ e₃ e₄ = rw (e₁, e₂, e₃, e₄) (omega arith)
 
@@ -123,11 +131,12 @@ pub ⊖-times : (a b c d : ℕ) → (a ⊖ b) *ℤ (c ⊖ d) ≡ (a * c + b * d)
 
 -- ---- the quotient rounded down, and what it leaves
 
-quotient : (d x e t : ℕ) → t < d → x ≡ d * e + t → (x / d ≡ e) × (x % d ≡ t)
+pub quotient : (d x e t : ℕ) → t < d → x ≡ d * e + t → (x / d ≡ e) × (x % d ≡ t)
 quotient d x e t h k =
-    let pos-d : 0 < d = omega arith in
-    (ap (λ (n : ℕ). n / d) k ∙ mul-add-div pos-d e t ∙ ap (λ (n : ℕ). e + n) (div-eq-of-lt h) ∙ add-zero e,
-    ap (λ (n : ℕ). n % d) k ∙ mul-add-mod-self-left d e t ∙ mod-eq-of-lt h)
+    let pos-d : 0 < d = omega arith in (
+      ap (λ (n : ℕ). n / d) k ∙ mul-add-div pos-d e t ∙ ap (λ (n : ℕ). e + n) (div-eq-of-lt h) ∙ add-zero e,
+      ap (λ (n : ℕ). n % d) k ∙ mul-add-mod-self-left d e t ∙ mod-eq-of-lt h,
+    )
 
 module _ (a b d : ℕ) (pos-d : 0 < d) where
   -- below zero: with m = b - a - 1, the sum a + (d - b % d) is d * e + (d - 1 - m % d), where b / d = m / d + e
@@ -152,12 +161,14 @@ fdiv-⊖ a b d e = ⊎-elim low high (split a b)
   where
     p : 0 < d
     p = positive d e
+
     low : a < b → fdiv (a ⊖ b) d ≡ ((a + (d - b % d)) / d) ⊖ suc (b / d)
     low h =
         let k : ℕ = (b - suc a) / d in
         let s : k ≤ b / d = div-mono d (b - suc a) b p (omega arith) in
         let f : b / d ≡ k + (b / d - k) = omega arith in
         rw (⊖-low a b h) (of-negsuc k ∙ ⊖-same 0 (suc k) ((a + (d - b % d)) / d) (suc (b / d)) (omega (arith, below-part a b d p h (b / d - k) f .0)))
+
     high : b ≤ a → fdiv (a ⊖ b) d ≡ ((a + (d - b % d)) / d) ⊖ suc (b / d)
     high h =
         let f : a + (d - b % d) ≡ (a - b) + d * suc (b / d) = omega (arith, div-add-mod b d, mod-lt b p) in
@@ -170,12 +181,14 @@ fmod-⊖ a b d e = ⊎-elim low high (split a b)
   where
     p : 0 < d
     p = positive d e
+
     low : a < b → fmod (a ⊖ b) d ≡ (a + (d - b % d)) % d
     low h =
         let k : ℕ = (b - suc a) / d in
         let s : k ≤ b / d = div-mono d (b - suc a) b p (omega arith) in
         let f : b / d ≡ k + (b / d - k) = omega arith in
         rw (⊖-low a b h) (sym (below-part a b d p h (b / d - k) f .1))
+
     high : b ≤ a → fmod (a ⊖ b) d ≡ (a + (d - b % d)) % d
     high h =
         let f : a + (d - b % d) ≡ (a - b) + d * suc (b / d) = omega (arith, div-add-mod b d, mod-lt b p) in
@@ -287,6 +300,9 @@ read-add a b = rw (sum-parts a b) (omega (arith, read-diff (up a + up b) (dn a +
 pub read-neg : (a : ℤ) → up (negℤ a) + up a ≡ dn (negℤ a) + dn a
 read-neg a = rw (neg-parts a) (omega (arith, read-diff (dn a) (up a)))
 
+pub read-times : (k : ℕ) (a : ℤ) → up (pos k *ℤ a) + k * dn a ≡ dn (pos k *ℤ a) + k * up a
+read-times k a = rw (times-parts (pos k) a) (omega (arith, read-diff (k * up a + 0 * dn a) (k * dn a + 0 * up a)))
+
 -- what a signed local gives back is the number that went in
 pub read-back : (w : Width) (z : ℤ) → SFits w z → up (toZ w (ofZ w z)) + dn z ≡ up z + dn (toZ w (ofZ w z))
 read-back w z f = read-eq (toZ w (ofZ w z)) z (toZ-ofZ f)
@@ -301,23 +317,26 @@ bits-eq w x y f g e = sym (toZ-ofZ f) ∙ ap (toZ w) e ∙ toZ-ofZ g
 -- ---- the same of two differences, for `simp`
 
 pub ⊖-le : (a b c d : ℕ) → ((a ⊖ b) ≤ℤ (c ⊖ d)) ↔ (a + d ≤ c + b)
-⊖-le a b c d =
-    ((λ h. omega (arith, read-le (a ⊖ b) (c ⊖ d) h, read-diff a b, read-diff c d)),
-    (λ h. show-le (a ⊖ b) (c ⊖ d) (omega (arith, read-diff a b, read-diff c d))))
+⊖-le a b c d = (
+  (λ h. omega (arith, read-le (a ⊖ b) (c ⊖ d) h, read-diff a b, read-diff c d)),
+  (λ h. show-le (a ⊖ b) (c ⊖ d) (omega (arith, read-diff a b, read-diff c d))),
+)
 
 pub ⊖-lt : (a b c d : ℕ) → ((a ⊖ b) <ℤ (c ⊖ d)) ↔ (a + d < c + b)
-⊖-lt a b c d =
-    ((λ h. omega (arith, read-lt (a ⊖ b) (c ⊖ d) h, read-diff a b, read-diff c d)),
-    (λ h. show-lt (a ⊖ b) (c ⊖ d) (omega (arith, read-diff a b, read-diff c d))))
+⊖-lt a b c d = (
+  (λ h. omega (arith, read-lt (a ⊖ b) (c ⊖ d) h, read-diff a b, read-diff c d)),
+  (λ h. show-lt (a ⊖ b) (c ⊖ d) (omega (arith, read-diff a b, read-diff c d))),
+)
 
 pub ⊖-eq : (a b c d : ℕ) → (a ⊖ b ≡ c ⊖ d) ↔ (a + d ≡ c + b)
 ⊖-eq a b c d =
     ((λ e. omega (arith, read-eq (a ⊖ b) (c ⊖ d) e, read-diff a b, read-diff c d)), (λ e. ⊖-same a b c d e))
 
 pub ⊖-fits : (w : Width) (a b : ℕ) → SFits w (a ⊖ b) ↔ ((a < 2 ^ hbits w + b) × (b ≤ a + 2 ^ hbits w))
-⊖-fits w a b =
-    ((λ f. omega (arith, f .sfits, range-of (a ⊖ b), read-diff a b)),
-    (λ h. record { sfits = omega (arith, range-of (a ⊖ b), read-diff a b, pow-pos (hbits w)) }))
+⊖-fits w a b = (
+  (λ f. omega (arith, f .sfits, range-of (a ⊖ b), read-diff a b)),
+  (λ h. record { sfits = omega (arith, range-of (a ⊖ b), read-diff a b, pow-pos (hbits w)) }),
+)
 
 pub ltZ-⊖ : (a b c d : ℕ) → ltZ (a ⊖ b) (c ⊖ d) ≡ ltb (a + d) (c + b)
 ltZ-⊖ a b c d =

@@ -1,2 +1,3 @@
 pub mod Edges
+pub mod Every
 pub mod Laws

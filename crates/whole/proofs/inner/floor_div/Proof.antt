@@ -18,7 +18,7 @@ minus-requires : tie.Need-minus-requires
 minus-requires c κs = small-div _ _ _ (c .below .ensures .1)
 
 returns : tie.Need-returns
-returns c = 
+returns c =
     let s = c .before .before .before in
     toZ-ofZ (record { sfits = c .minus .ok }) ∙ c .minus .ensures ∙ fdiv-below _ _ _ (sym (toZ-ofZ (s .fits .x)) ∙ c .before .below .ensures .0)
 
@@ -32,7 +32,7 @@ plus-requires : tie.Need-plus-requires
 plus-requires c κs = small-div _ _ _ (c .above .ensures .1)
 
 returns-2 : tie.Need-returns-2
-returns-2 c = 
+returns-2 c =
     let s = c .before .before .before in
     toZ-ofZ (record { sfits = c .plus .ok }) ∙ c .plus .ensures ∙ fdiv-above _ _ _ (sym (toZ-ofZ (s .fits .x)) ∙ c .before .above .ensures .0)
 

@@ -21,7 +21,7 @@ sub-result-2 : tie.Need-sub-result-2
 sub-result-2 c = small-mod _ _ (c .before .before .pre)
 
 returns : tie.Need-returns
-returns c = 
+returns c =
     let s = c .before .before in
     fmod-below _ _ _ (s .pre) (sym (toZ-ofZ (s .fits .x)) ∙ c .below .ensures .0)
 
@@ -32,7 +32,7 @@ rem-result-2 : tie.Need-rem-result-2
 rem-result-2 c = search needs
 
 returns-2 : tie.Need-returns-2
-returns-2 c = 
+returns-2 c =
     let s = c .before .before in
     fmod-above _ _ _ (s .pre) (sym (toZ-ofZ (s .fits .x)) ∙ c .above .ensures .0)
 

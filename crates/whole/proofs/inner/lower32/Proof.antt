@@ -15,19 +15,19 @@ cast-result-2 : tie.Need-cast-result-2
 cast-result-2 c = search needs
 
 sub-result : tie.Need-sub-result
-sub-result c = 
+sub-result c =
     let u : c .args .u < 2 ^ 63 = omega arith in
     let k : c .args .k < 2 ^ 63 = omega arith in
     rw (toZ-pos w64 u, toZ-pos w64 k) (lowered-fits _ _ u k)
 
 cast-result-3 : tie.Need-cast-result-3
-cast-result-3 c = 
+cast-result-3 c =
     let u : c .args .u < 2 ^ 63 = omega arith in
     let k : c .args .k < 2 ^ 63 = omega arith in
     rw (toZ-ofZ (sub-result c), toZ-pos w64 u, toZ-pos w64 k) (lowered-fits32 _ _ (c .pre .1 .0) (c .pre .1 .1))
 
 returns : tie.Need-returns
-returns c = 
+returns c =
     let u : c .args .u < 2 ^ 63 = omega arith in
     let k : c .args .k < 2 ^ 63 = omega arith in
     rw (toZ-ofZ (cast-result-3 c), toZ-ofZ (sub-result c), toZ-pos w64 u, toZ-pos w64 k) (lowered-is _ _)

@@ -15,20 +15,20 @@ cast-result-2 : tie.Need-cast-result-2
 cast-result-2 c = search needs
 
 add-result : tie.Need-add-result
-add-result c = 
+add-result c =
     let f = c .fits .y in
     let k : c .args .k < 2 ^ 63 = omega arith in
     rw (toZ-ofZ (cast-result c), toZ-ofZ f, toZ-pos w64 k) (raised-fits _ _ (low32 _ _ f (c .pre .0)) (high32-64 _ _ f (c .pre .1)))
 
 cast-result-3 : tie.Need-cast-result-3
-cast-result-3 c = 
+cast-result-3 c =
     let f = c .fits .y in
     let k : c .args .k < 2 ^ 63 = omega arith in
     let low = low32 _ _ f (c .pre .0) in
     rw (toZ-ofZ (add-result c), toZ-ofZ (cast-result c), toZ-ofZ f, toZ-pos w64 k) (as-nat _ (raised-low _ _ low) (raised-fits _ _ low (high32-64 _ _ f (c .pre .1))))
 
 returns : tie.Need-returns
-returns c = 
+returns c =
     let f = c .fits .y in
     let k : c .args .k < 2 ^ 63 = omega arith in
     let low = low32 _ _ f (c .pre .0) in

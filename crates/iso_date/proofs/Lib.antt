@@ -1,0 +1,5 @@
+pub mod Answers
+pub mod Dates
+pub mod Months
+pub mod Tables
+pub mod Years

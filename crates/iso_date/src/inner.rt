@@ -1,0 +1,221 @@
+// Years and days as naturals. A year is counted from -8,000,000,000, a multiple of 400, so that leap years fall as in year 0, and a
+// day from the first day of that year; every year that a call can reach, and every day count that matters, is then a natural.
+use crate::IsoDate;
+ghost use mathlib.Core.Path.{_≡_};
+ghost use mathlib.Core.Bool.{cond};
+ghost use Prim.Native.Nat.{_+_, _-_, _*_, _<_, _≤_, _^_};
+ghost use lib.ListN.{getD};
+ghost use mathlib.Core.Bool.{true};
+ghost use lib.IntN.{_+ℤ_, _-ℤ_, pos, negℤ};
+ghost use Rattle.whole.specs.Whole.{_⊖_, clampZ};
+ghost use Rattle.iso_date.specs.Proposal.{leapYear, monthLengths, isoDaysInMonth, daysBeforeMonth, dayFromMonth, isValidISODate, epochDays, epochDaysToISODate, isoDateWithinLimits, clampTo};
+ghost use Rattle.iso_date.specs.Inner.{yearBias, monthBias, dayBias, yearStart, YearHolds, MonthHolds, Balances};
+
+pub const YEAR_BIAS: u64 = 8_000_000_000;
+// The days from the first day of year -YEAR_BIAS to 1970-01-01: 20,000,000 times 146,097 days of 400 years, and 719,528.
+pub const DAY_BIAS: u64 = 2_921_940_719_528;
+// A day count is balanced where it is at most this in size.
+pub const MOST_DAYS: u64 = 100_000_001;
+
+// As many months as lie in 400,000,000 years, so that a month of 32 bits, or one moved by a duration, is a natural.
+pub const MONTH_BIAS: u64 = 4_800_000_000;
+
+// The lengths of the months of a common year.
+const MONTH_LENGTHS: [u8; 12] = [31, 28, 31, 30, 31, 30, 31, 31, 30, 31, 30, 31];
+// The days of a common year before each of its months.
+const DAYS_BEFORE: [u16; 12] = [0, 31, 59, 90, 120, 151, 181, 212, 243, 273, 304, 334];
+
+// A year as a natural.
+pub fn year_up(year: i32) -> u64
+    ensures { λ r. ⌜ (year ≡ r ⊖ yearBias) × ((r < 2 ^ 31 + yearBias) × (yearBias ≤ r + 2 ^ 31)) ⌝ }
+{
+    whole::inner::raise32(year, YEAR_BIAS)
+}
+
+// The days before year u.
+pub fn year_start(u: u64) -> u64
+    requires { ⌜ u < 2 ^ 40 ⌝ }
+    ensures { λ r. ⌜ (r ≡ yearStart u) × (r < 2 ^ 49) ⌝ }
+{
+    365 * u + (u + 3) / 4 - (u + 99) / 100 + (u + 399) / 400
+}
+
+// Whether year u is a leap year.
+pub fn is_leap(u: u64) -> bool
+    ensures { λ r. ⌜ r ≡ leapYear (u ⊖ yearBias) ⌝ }
+{
+    if u % 4 != 0 {
+        return false;
+    }
+    if u % 100 != 0 {
+        return true;
+    }
+    u % 400 == 0
+}
+
+// The length of month m, counted from 1.
+pub fn month_days(leap: bool, m: u8) -> u8
+    requires { ⌜ (1 ≤ m) × (m ≤ 12) ⌝ }
+    ensures { λ r. ⌜ (r ≡ getD (monthLengths leap) (m - 1) 0) × (r ≤ 31) ⌝ }
+{
+    if m == 2 {
+        return MONTH_LENGTHS[1] + leap_day(leap);
+    }
+    let i = (m - 1) as usize;
+    MONTH_LENGTHS[i]
+}
+
+// The day that a leap year has more than a common one.
+fn leap_day(leap: bool) -> u8
+    ensures { λ r. ⌜ (r ≡ cond leap 1 0) × (r ≤ 1) ⌝ }
+{
+    if leap { 1 } else { 0 }
+}
+
+// The days of a year before month i, counted from 0.
+pub fn days_before(leap: bool, i: u64) -> u64
+    requires { ⌜ i < 12 ⌝ }
+    ensures { λ r. ⌜ (r ≡ daysBeforeMonth leap i) × (r < 336) ⌝ }
+{
+    let k = i as usize;
+    let days = DAYS_BEFORE[k];
+    if i < 2 {
+        return days as u64;
+    }
+    days as u64 + leap_day(leap) as u64
+}
+
+// The day number of day 1 of month i of year u, the months counted from 0, as a natural.
+pub fn month_start(u: u64, i: u64) -> u64
+    requires { ⌜ (u < 2 ^ 40) × (i < 12) ⌝ }
+    ensures { λ r. ⌜ (r ⊖ dayBias ≡ dayFromMonth (u ⊖ yearBias) i) × (r < 2 ^ 50) ⌝ }
+{
+    let leap = is_leap(u);
+    year_start(u) + days_before(leap, i)
+}
+
+// The year that holds day n. The mean of 146,097 days in 400 years is exact or one year late.
+pub fn year_of(n: u64) -> u64
+    requires { ⌜ (n < 2 ^ 48) × (146097 ≤ n) ⌝ }
+    ensures { λ r. ⌜ YearHolds n r ⌝ }
+{
+    let e = (400 * n + 400) / 146097;
+    if n < year_start(e) {
+        return e - 1;
+    }
+    e
+}
+
+// The month, counted from 0, that holds day n of a year: each month is at most 31 days long and the first eleven together lack less
+// than a month to that, so it is n / 31 or the one after.
+pub fn month_of(leap: bool, n: u64) -> u64
+    requires { ⌜ n < cond leap 366 365 ⌝ }
+    ensures { λ r. ⌜ MonthHolds leap n r ⌝ }
+{
+    let i = n / 31;
+    if i < 11 {
+        if days_before(leap, i + 1) <= n {
+            return i + 1;
+        }
+    }
+    i
+}
+
+// The date of day n, a natural.
+pub fn civil(n: u64) -> IsoDate
+    requires { ⌜ (dayBias - 100000001 ≤ n) × (n ≤ dayBias + 100000001) ⌝ }
+    ensures { λ r. ⌜ r ≡ epochDaysToISODate (n ⊖ dayBias) ⌝ }
+{
+    let u = year_of(n);
+    let leap = is_leap(u);
+    let day = n - year_start(u);
+    let i = month_of(leap, day);
+    IsoDate {
+        year: whole::inner::lower32(u, YEAR_BIAS),
+        month: (i + 1) as u8,
+        day: (day - days_before(leap, i) + 1) as u8,
+    }
+}
+
+// A year and one of its months, both as naturals; the months are counted from 0.
+pub struct UpMonth {
+    pub year: u64,
+    pub index: u64,
+}
+
+// A month of any number, counted from 1, as a natural.
+pub fn month_up(month: i32) -> u64
+    ensures { λ r. ⌜ (month ≡ r ⊖ monthBias) × ((r < 2 ^ 31 + monthBias) × (monthBias ≤ r + 2 ^ 31)) ⌝ }
+{
+    whole::inner::raise32(month, MONTH_BIAS)
+}
+
+// Twelve months carried on as a year: month 13 is the next January, month 0 the December before.
+pub fn balance_up(u: u64, m: u64) -> UpMonth
+    requires { ⌜ ((400000000 ≤ u) × (u < 2 ^ 39)) × ((1 ≤ m) × (m < 2 ^ 39)) ⌝ }
+    ensures { λ r. ⌜ Balances u m (r .year) (r .index) ⌝ }
+{
+    let k = m - 1;
+    UpMonth {
+        year: u + k / 12 - 400_000_000,
+        index: k % 12,
+    }
+}
+
+// A year given back as 32 bits, clamped to them.
+pub fn year_down(u: u64) -> i32
+    ensures { λ r. ⌜ r ≡ clampZ (u ⊖ yearBias) (negℤ (pos (2 ^ 31))) (pos (2 ^ 31 - 1)) ⌝ }
+{
+    if u < YEAR_BIAS - 2_147_483_648 {
+        return -2_147_483_648;
+    }
+    if u > YEAR_BIAS + 2_147_483_647 {
+        return 2_147_483_647;
+    }
+    whole::inner::lower32(u, YEAR_BIAS)
+}
+
+// The length of a month.
+pub fn days_in_month(year: i32, month: u8) -> u8
+    requires { ⌜ (1 ≤ month) × (month ≤ 12) ⌝ }
+    ensures { λ r. ⌜ (r ≡ isoDaysInMonth year month) × (r ≤ 31) ⌝ }
+{
+    let leap = is_leap(year_up(year));
+    month_days(leap, month)
+}
+
+// The number from 1 to high that is nearest to n.
+pub fn clamp_to(high: u8, n: u8) -> u8
+    requires { ⌜ 1 ≤ high ⌝ }
+    ensures { λ r. ⌜ (r ≡ clampTo high n) × ((1 ≤ r) × (r ≤ high)) ⌝ }
+{
+    if n < 1 {
+        return 1;
+    }
+    if n > high {
+        return high;
+    }
+    n
+}
+
+// The day number of a date whose fields are valid.
+pub fn epoch_days(date: IsoDate) -> i64
+    requires { ⌜ isValidISODate date ≡ true ⌝ }
+    ensures { λ r. ⌜ r ≡ epochDays date ⌝ }
+{
+    let u = year_up(date.year);
+    let n = month_start(u, date.month as u64 - 1) + date.day as u64;
+    whole::inner::lower(n, DAY_BIAS + 1)
+}
+
+// Whether a date whose fields are valid lies within the date limits.
+pub fn within_limits(date: IsoDate) -> bool
+    requires { ⌜ isValidISODate date ≡ true ⌝ }
+    ensures { λ r. ⌜ r ≡ isoDateWithinLimits date ⌝ }
+{
+    let day = epoch_days(date);
+    if day < -100_000_001 {
+        return false;
+    }
+    day <= 100_000_000
+}
