@@ -1,0 +1,20 @@
+//! The parser's time record, which only `from_time_record` reads. No call of the console comes to it.
+
+pub mod records {
+    pub struct TimeRecord {
+        pub hour: u8,
+        pub minute: u8,
+        pub second: u8,
+        pub fraction: Option<Fraction>,
+    }
+
+    pub struct Fraction {
+        pub nanoseconds: Option<u32>,
+    }
+
+    impl Fraction {
+        pub fn to_nanoseconds(&self) -> Option<u32> {
+            self.nanoseconds
+        }
+    }
+}
