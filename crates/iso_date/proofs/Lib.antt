@@ -2,4 +2,5 @@ pub mod Answers
 pub mod Dates
 pub mod Months
 pub mod Tables
+pub mod Theorems
 pub mod Years

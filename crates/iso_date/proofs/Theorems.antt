@@ -1,0 +1,67 @@
+-- What holds of the calls of modules 1 and 2 beyond their definitions, over every whole number. Assumes nothing.
+use Prim.Native.Nat.{ℕ, _+_, _-_, _≤_}
+use native.Mathlib.Omega.{arith}
+use mathlib.Core.Path.{_≡_, refl, sym, _∙_, ap, ap₂}
+use mathlib.Core.Bool.{Bool, true, false}
+use mathlib.Core.Logic.{_↔_}
+use lib.IntN.{ℤ, pos, negℤ, _+ℤ_, _-ℤ_, _*ℤ_}
+use lib.Signed.{ltZ, leZ, _≤ℤ_}
+use Rattle.refusal.specs.Answer.{Answer, given, refused, check, andThen}
+use Rattle.whole.specs.Whole.{_⊖_, fdiv, fmod}
+use Rattle.whole.proofs.Laws.{whole, ints, parts, read-add, fdiv-fmod, fdiv-unique, fmod-lt}
+use Rattle.iso_date.specs.Proposal.{date, dayFromMonth, isoDateToEpochDays, epochDays, epochDaysToISODate, isValidISODate, momentWithinLimits, isoDateWithinLimits, noon}
+use Rattle.iso_date.specs.Paper.{balanced, dateToDay, dayToDate, balanceDate}
+use Rattle.iso_date.specs.declared.IsoDate.{IsoDate}
+use Rattle.iso_date.proofs.Dates.{read-valid, there-and-back, back-valid, back-and-there, one-date, plain-month}
+use Rattle.iso_date.proofs.Answers.{limits-low, limits-high, limits-in}
+
+-- ---- the two conversions are inverse over the balanced range, both ways
+
+pub day-date-day : (n : ℤ) → balanced n ≡ true → andThen (dayToDate n) dateToDay ≡ given n
+unfolding dayToDate dateToDay
+day-date-day n b = rw (b, back-valid n, back-and-there n, b)
+
+pub date-day-date : (d : IsoDate) → isValidISODate d ≡ true → balanced (epochDays d) ≡ true → andThen (dateToDay d) dayToDate ≡ given d
+unfolding dayToDate dateToDay
+date-day-date d v b =
+    rw (v, b, b) (ap given (there-and-back (d .year) (d .month) (d .day) (read-valid (d .year) (d .month) (d .day) v)))
+
+-- a day has one valid date
+pub one-valid-date : (d e : IsoDate) → isValidISODate d ≡ true → isValidISODate e ≡ true → epochDays d ≡ epochDays e → d ≡ e
+one-valid-date d e v w same =
+    one-date (d .year) (e .year) (d .month) (e .month) (d .day) (e .day) (read-valid (d .year) (d .month) (d .day) v)
+    (read-valid (e .year) (e .month) (e .day) w) same
+
+-- ---- the date limits, which the definition takes at noon, are days -100,000,001 to 100,000,000
+
+pub limits-are : (d : IsoDate) →
+    (isoDateWithinLimits d ≡ true) ↔ ((negℤ (pos 100000001) ≤ℤ epochDays d) × (epochDays d ≤ℤ pos 100000000))
+limits-are d = (inside (epochDays d), (λ h. limits-in (epochDays d) (h .0) (h .1)))
+  where
+    clash : {A : Type 0} (b : Bool) → b ≡ true → b ≡ false → A
+    clash b e f = let z : _≡_ {A = ℕ} 0 1 = cc in let n : ⊥ = omega arith in absurd n
+    high : (n : ℤ) → momentWithinLimits n noon ≡ true → (t : Bool) → leZ n (pos 100000000) ≡ t → n ≤ℤ pos 100000000
+    high n e true f = omega (arith, ints)
+    high n e false f = clash (momentWithinLimits n noon) e (limits-high n (omega (arith, ints)))
+    low : (n : ℤ) → momentWithinLimits n noon ≡ true → (t : Bool) → ltZ n (negℤ (pos 100000001)) ≡ t → negℤ (pos 100000001) ≤ℤ n
+    low n e true f = clash (momentWithinLimits n noon) e (limits-low n (omega (arith, ints)))
+    low n e false f = omega (arith, ints)
+    inside : (n : ℤ) → momentWithinLimits n noon ≡ true → (negℤ (pos 100000001) ≤ℤ n) × (n ≤ℤ pos 100000000)
+    inside n e = (low n e (ltZ n (negℤ (pos 100000001))) refl, high n e (leZ n (pos 100000000)) refl)
+
+-- ---- balancing: twelve months are a year, so month 13 is the next January, month 0 the December before, and so on below
+
+pub months-carry : (y m d k : ℤ) → isoDateToEpochDays y (m +ℤ pos 12 *ℤ k) d ≡ isoDateToEpochDays (y +ℤ k) m d
+unfolding isoDateToEpochDays
+months-carry y m d k =
+    let a = fdiv-unique (m +ℤ pos 12 *ℤ k) (fdiv m 12 +ℤ k) 12 (fmod m 12) (fmod-lt m 12 (omega arith)) (moved m (fdiv m 12) k (fmod m 12) (fdiv-fmod m 12 (omega arith))) in
+    rw (a .0, a .1) (ap (λ (x : ℤ). dayFromMonth x (fmod m 12) +ℤ d -ℤ pos 1) (regroup y (fdiv m 12) k))
+  where
+    moved : (m q k : ℤ) (r : ℕ) → m ≡ pos 12 *ℤ q +ℤ pos r → m +ℤ pos 12 *ℤ k ≡ pos 12 *ℤ (q +ℤ k) +ℤ pos r
+    moved m q k r e = rw (e, parts q, parts k) (simp whole (omega arith))
+    regroup : (a b c : ℤ) → a +ℤ (b +ℤ c) ≡ a +ℤ c +ℤ b
+    regroup a b c = rw (parts a, parts b, parts c) (simp whole (omega arith))
+
+-- month 12 is the December of its own year
+pub december : (y d : ℤ) → isoDateToEpochDays y (pos 12 -ℤ pos 1) d ≡ dayFromMonth y 11 +ℤ d -ℤ pos 1
+december y d = plain-month y 12 d (omega arith) (omega arith)

@@ -1,0 +1,59 @@
+-- Text in a buffer: a text put into its place byte by byte from its end, and one text written after another.
+-- Assumes nothing.
+use Prim.Native.Nat.{ℕ, suc, _+_, _≤_, _<_}
+use native.Mathlib.Nat.{add-zero}
+use native.Mathlib.Omega.{arith}
+use mathlib.Core.Path.{_≡_, refl, sym, ap, _∙_}
+use mathlib.Core.List.{List, [], _∷_, _++_, append-assoc, append-nil}
+use lib.ListN.{length, take, drop, set, length-append, length-take, length-drop, length-set, take-append-drop}
+use lib.Seq.{take-set-le, drop-set-lt, drop-cons, getD-set-same, take-at, length-take-le}
+use Rattle.lines.specs.Wrote.{Wrote}
+
+-- the buffer with a text at its place
+abbrev pub placed : List ℕ → ℕ → List ℕ → List ℕ
+placed l at text = take at l ++ (text ++ drop (at + length text) l)
+
+pub placed-none : (l : List ℕ) (at : ℕ) → placed l at [] ≡ l
+placed-none l at = rw (add-zero at, take-append-drop)
+
+-- a store of the last byte leaves the others to place
+pub put-last : (l : List ℕ) (at : ℕ) (text : List ℕ) (b i : ℕ) → i ≡ at + length text → i < length l → placed (set l i b) at text ≡ placed l at (text ++ (b ∷ []))
+put-last l at text b i e h =
+    let low : at ≤ i = omega arith in
+    let long : i < length (set l i b) = rw (length-set l i b) h in
+    let f : at + length (text ++ (b ∷ [])) ≡ suc i = rw (length-append text (b ∷ [])) (omega arith) in
+    let here : drop (at + length text) (set l i b) ≡ b ∷ drop (at + length (text ++ (b ∷ []))) l = rw (← e, f, drop-cons (set l i b) i 0 long, getD-set-same l i b 0 h, drop-set-lt (suc i) l i b (omega arith)) in
+    rw (take-set-le at l i b low, here, append-assoc)
+
+pub placed-wrote : (l l′ : List ℕ) (at : ℕ) (text : List ℕ) (end : ℕ) → at + length text ≤ length l → l′ ≡ placed l at text → end ≡ at + length text → Wrote l at text l′ end
+placed-wrote l l′ at text end room e f =
+    let n : length (take at l) ≡ at = length-take-le at l (omega arith) in
+    let m : length (take at l ++ text) ≡ end = length-append (take at l) text ∙ ap (λ (k : ℕ). k + length text) n ∙ sym f in
+    record {
+      ends = f;
+      holds = ap (take end) (e ∙ sym (append-assoc (take at l) text (drop (at + length text) l))) ∙ take-at (take at l ++ text) (drop (at + length text) l) end m;
+      sized = ap length e ∙ (simp (length-append, length-drop, n) (omega arith));
+    }
+
+pub put-one : (l : List ℕ) (at b : ℕ) → at < length l → Wrote l at (b ∷ []) (set l at b) (at + 1)
+put-one l at b h =
+    placed-wrote l (set l at b) at (b ∷ []) (at + 1) (omega arith)
+    (sym (placed-none (set l at b) at) ∙ put-last l at [] b at (omega arith) h)
+    refl
+
+-- one text after another
+pub after : {a b c s t : List ℕ} {at m n : ℕ} → Wrote a at s b m → Wrote b m t c n → Wrote a at (s ++ t) c n
+after {a} {b} {c} {s} {t} {at} {m} {n} v w =
+    record {
+      ends = w .ends ∙ (simp length-append (omega (arith, v .ends)));
+      holds = w .holds ∙ ap (λ (l : List ℕ). l ++ t) (v .holds) ∙ append-assoc (take at a) s t;
+      sized = w .sized ∙ v .sized;
+    }
+
+pub nothing : (l : List ℕ) (at : ℕ) → Wrote l at [] l at
+nothing l at = record { ends = sym (add-zero at); holds = sym (append-nil (take at l)); sized = refl }
+
+-- what was written ends within the buffer
+pub ends-inside : {before text after : List ℕ} {at end : ℕ} → at ≤ length before → Wrote before at text after end → end ≤ length after
+ends-inside {before} {text} {after} {at} {end} h w =
+    omega (arith, w .ends, simp (length-append, length-take) at (ap length (w .holds)))

@@ -1,0 +1,98 @@
+-- The text of the line protocol. A line is a list of bytes, without its newline.
+use Prim.Native.Nat.{ℕ, zero, suc, _+_, _-_, _*_, _/_, _%_, _^_}
+use mathlib.Core.Bool.{Bool, true, false, cond, _&&_, not}
+use mathlib.Core.List.{List, [], _∷_, _++_}
+use lib.Dec.{ltb, leb, eqb}
+use lib.IntN.{ℤ, pos, negsuc, negℤ}
+use lib.Signed.{leZ}
+
+-- the bytes that mean something
+abbrev pub space : ℕ
+space = 32
+
+abbrev pub minusSign : ℕ
+minusSign = 45
+
+abbrev pub digitZero : ℕ
+digitZero = 48
+
+abbrev pub questionMark : ℕ
+questionMark = 63
+
+abbrev pub newline : ℕ
+newline = 10
+
+-- ---- fields: what stands between single spaces. Two spaces in a row, or one at an end, have an empty field between them
+
+abbrev pub joinFirst : ℕ → List (List ℕ) → List (List ℕ)
+joinFirst b [] = (b ∷ []) ∷ []
+joinFirst b (f ∷ fs) = (b ∷ f) ∷ fs
+
+unfoldable pub fields : List ℕ → List (List ℕ)
+fields [] = [] ∷ []
+fields (b ∷ bs) = cond (eqb b space) ([] ∷ fields bs) (joinFirst b (fields bs))
+
+-- ---- numbers
+
+-- a number that was found, or none
+pub data Found : Type 0 where
+  number : ℤ → Found
+  none : Found
+
+abbrev pub isDigit : ℕ → Bool
+isDigit b = leb digitZero b && leb b 57
+
+abbrev pub allDigits : List ℕ → Bool
+allDigits [] = true
+allDigits (b ∷ bs) = isDigit b && allDigits bs
+
+-- the number that digits say, the most significant first, with v for what stands before them
+unfoldable pub valueFrom : ℕ → List ℕ → ℕ
+valueFrom v [] = v
+valueFrom v (b ∷ bs) = valueFrom (10 * v + (b - digitZero)) bs
+
+-- the one shortest form of a natural: digits alone, at least one, the first of several not 0
+abbrev pub shortest : List ℕ → Bool
+shortest [] = false
+shortest (b ∷ []) = isDigit b
+shortest (b ∷ c ∷ bs) = not (eqb b digitZero) && allDigits (b ∷ c ∷ bs)
+
+-- a number of the protocol: a natural below 2^64, or `-` before a natural from 1 to 2^63
+abbrev pub naturalOf : List ℕ → Found
+naturalOf bs = cond (shortest bs && ltb (valueFrom 0 bs) (2 ^ 64)) (number (pos (valueFrom 0 bs))) none
+
+abbrev pub negativeOf : List ℕ → Found
+negativeOf bs = cond (shortest bs && (ltb 0 (valueFrom 0 bs) && leb (valueFrom 0 bs) (2 ^ 63))) (number (negℤ (pos (valueFrom 0 bs)))) none
+
+unfoldable pub numberOf : List ℕ → Found
+numberOf [] = none
+numberOf (b ∷ bs) = cond (eqb b minusSign) (negativeOf bs) (naturalOf (b ∷ bs))
+
+-- the number, where it is one from low to high
+unfoldable pub within : ℤ → ℤ → Found → Found
+within low high none = none
+within low high (number z) = cond (leZ low z && leZ z high) (number z) none
+
+-- ---- writing
+
+-- the decimal digits of n, which has at most `most` of them, the most significant first
+unfoldable pub digits : ℕ → ℕ → List ℕ
+digits zero n = []
+digits (suc most) n = cond (ltb n 10) ((digitZero + n) ∷ []) (digits most (n / 10) ++ ((digitZero + n % 10) ∷ []))
+
+-- a number in its one shortest form; twenty digits hold every number of 64 bits
+unfoldable pub decimal : ℤ → List ℕ
+decimal (pos n) = digits 20 n
+decimal (negsuc n) = minusSign ∷ digits 20 (suc n)
+
+-- the values of an answer, each after a space
+unfoldable pub spaced : List ℤ → List ℕ
+spaced [] = []
+spaced (v ∷ vs) = (space ∷ decimal v) ++ spaced vs
+
+-- an answer's line: its number, then its values; and the line for what is no request
+unfoldable pub answerText : ℕ → List ℤ → List ℕ
+answerText n vs = decimal (pos n) ++ spaced vs ++ (newline ∷ [])
+
+abbrev pub questionText : List ℕ
+questionText = questionMark ∷ newline ∷ []

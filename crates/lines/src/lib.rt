@@ -1,0 +1,238 @@
+// The text of the line protocol: what the fields of a line are, which of them are numbers, and how an answer is written.
+// Nothing of calendars.
+pub mod inner;
+
+use whole::inner::minus;
+use whole::inner::plus;
+ghost use mathlib.Core.Path.{_≡_};
+ghost use mathlib.Core.Bool.{cond, _&&_};
+ghost use mathlib.Core.List.{[]};
+ghost use Prim.Native.Nat.{_-_, _^_, _≤_};
+ghost use lib.Dec.{ltb};
+ghost use lib.IntN.{pos};
+ghost use lib.ListN.{length, take, drop, getD};
+ghost use Rattle.lines.specs.Text.{fields, allDigits, valueFrom, naturalOf, numberOf, within, number, none};
+ghost use Rattle.lines.specs.Meaning.{ofNumber, ofSigned, ofNatural};
+
+// What stands between two fields.
+const SPACE: u8 = b' ';
+
+// The size of the smallest i64, -2^63.
+const SMALLEST: u64 = 0x8000_0000_0000_0000;
+
+// A whole number: a natural, the size of a negative number, or no number.
+pub enum Number {
+    Plus(u64),
+    Minus(u64),
+    Not,
+}
+
+// A number between two bounds that a caller gave, or none.
+pub enum Signed {
+    Is(i64),
+    Not,
+}
+
+// A natural up to a bound that a caller gave, or none.
+pub enum Natural {
+    Is(u64),
+    Not,
+}
+
+// How many fields the line has: one more than it has spaces.
+// An empty line has one field, which is empty.
+pub fn field_count(line: &[u8]) -> usize
+    ensures { λ r. ⌜ r ≡ length (fields (now (line .entry))) ⌝ }
+{
+    let mut n: usize = 1;
+    let mut at = 0;
+    while at < line.len() {
+        if line[at] == SPACE {
+            n += 1;
+        }
+        at += 1;
+    }
+    n
+}
+
+// Field i of the line, counted from 0: what stands between two spaces, or a space and an end of the line.
+// A field that the line does not have is empty.
+pub fn field(line: &[u8], i: usize) -> &[u8]
+    ensures { λ r. ⌜ now r ≡ getD (fields (now (line .entry))) i [] ⌝ }
+{
+    let from = field_start(line, i);
+    let end = field_end(line, from);
+    &line[from..end]
+}
+
+// The number whose one shortest form the text is: a natural below 2^64, or a number from -2^63 to -1.
+// Any other text is no number, as nothing, `+1`, `01` and `-0` are.
+pub fn read_number(text: &[u8]) -> Number
+    ensures { λ r. ⌜ ofNumber r ≡ numberOf (now (text .entry)) ⌝ }
+{
+    if text.len() == 0 {
+        return Number::Not;
+    }
+    if text[0] != b'-' {
+        let Natural::Is(n) = read_natural(text) else {
+            return Number::Not;
+        };
+        return Number::Plus(n);
+    }
+    let Natural::Is(size) = read_natural(&text[1..]) else {
+        return Number::Not;
+    };
+    if size == 0 {
+        return Number::Not;
+    }
+    if SMALLEST < size {
+        return Number::Not;
+    }
+    Number::Minus(size)
+}
+
+// The number that field i of the line is, where it lies from low to high.
+// None, where it lies outside, and where the field is no number or the line has no such field.
+pub fn signed_at(line: &[u8], i: usize, low: i64, high: i64) -> Signed
+    ensures { λ r. ⌜ ofSigned r ≡ within low high (numberOf (getD (fields (now (line .entry))) i [])) ⌝ }
+{
+    signed_within(read_number(field(line, i)), low, high)
+}
+
+// The natural that field i of the line is, where it is at most high.
+// None, where it is larger, and where the field is no natural or the line has no such field.
+pub fn natural_at(line: &[u8], i: usize, high: u64) -> Natural
+    ensures { λ r. ⌜ ofNatural r ≡ within (pos 0) (pos high) (numberOf (getD (fields (now (line .entry))) i [])) ⌝ }
+{
+    natural_within(read_number(field(line, i)), high)
+}
+
+// Where field i of the line starts; the line's end, where it has no such field.
+fn field_start(line: &[u8], i: usize) -> usize
+    ensures { λ r. ⌜ (r ≤ length (now (line .entry))) × (getD (fields (drop r (now (line .entry)))) 0 [] ≡ getD (fields (now (line .entry))) i []) ⌝ }
+{
+    let mut left = i;
+    let mut at = 0;
+    while at < line.len() {
+        if left == 0 {
+            return at;
+        }
+        if line[at] == SPACE {
+            left -= 1;
+        }
+        at += 1;
+    }
+    at
+}
+
+// Where the field that starts at `from` ends: at the first space, or at the line's end.
+fn field_end(line: &[u8], from: usize) -> usize
+    requires { ⌜ from ≤ length (now line) ⌝ }
+    ensures { λ r. ⌜ (from ≤ r) × ((r ≤ length (now (line .entry))) × (take (r - from) (drop from (now (line .entry))) ≡ getD (fields (drop from (now (line .entry)))) 0 [])) ⌝ }
+{
+    let mut at = from;
+    while at < line.len() {
+        if line[at] == SPACE {
+            return at;
+        }
+        at += 1;
+    }
+    at
+}
+
+// The natural below 2^64 whose shortest form the text is, or none.
+fn read_natural(text: &[u8]) -> Natural
+    ensures { λ r. ⌜ ofNatural r ≡ naturalOf (now (text .entry)) ⌝ }
+{
+    if text.len() == 0 {
+        return Natural::Not;
+    }
+    if 1 < text.len() {
+        if text[0] == b'0' {
+            return Natural::Not;
+        }
+    }
+    digits_value(text)
+}
+
+// The value of a text of digits alone, where it is below 2^64. Zeros before it do not matter here.
+fn digits_value(text: &[u8]) -> Natural
+    ensures { λ r. ⌜ ofNatural r ≡ cond (allDigits (now (text .entry)) && ltb (valueFrom 0 (now (text .entry))) (2 ^ 64)) (number (pos (valueFrom 0 (now (text .entry))))) none ⌝ }
+{
+    let mut value: u64 = 0;
+    let mut at = 0;
+    while at < text.len() {
+        let b = text[at];
+        if b < b'0' {
+            return Natural::Not;
+        }
+        if b'9' < b {
+            return Natural::Not;
+        }
+        let digit = (b - b'0') as u64;
+        if (u64::MAX - digit) / 10 < value {
+            return Natural::Not;
+        }
+        value = 10 * value + digit;
+        at += 1;
+    }
+    Natural::Is(value)
+}
+
+// What was read, where it lies from low to high. A size that no i64 has lies outside whatever the bounds are.
+fn signed_within(x: Number, low: i64, high: i64) -> Signed
+    ensures { λ r. ⌜ ofSigned r ≡ within low high (ofNumber x) ⌝ }
+{
+    match x {
+        Number::Plus(n) => {
+            if SMALLEST <= n {
+                return Signed::Not;
+            }
+            bounded(plus(n), low, high)
+        }
+        Number::Minus(n) => {
+            if n == 0 {
+                return bounded(0, low, high);
+            }
+            if SMALLEST < n {
+                return Signed::Not;
+            }
+            bounded(minus(n - 1), low, high)
+        }
+        Number::Not => Signed::Not,
+    }
+}
+
+// What was read, where it is a natural and at most high.
+fn natural_within(x: Number, high: u64) -> Natural
+    ensures { λ r. ⌜ ofNatural r ≡ within (pos 0) (pos high) (ofNumber x) ⌝ }
+{
+    match x {
+        Number::Plus(n) => {
+            if high < n {
+                return Natural::Not;
+            }
+            Natural::Is(n)
+        }
+        Number::Minus(n) => {
+            if n == 0 {
+                return Natural::Is(0);
+            }
+            Natural::Not
+        }
+        Number::Not => Natural::Not,
+    }
+}
+
+// The number, where it lies from low to high.
+fn bounded(z: i64, low: i64, high: i64) -> Signed
+    ensures { λ r. ⌜ ofSigned r ≡ within low high (number z) ⌝ }
+{
+    if z < low {
+        return Signed::Not;
+    }
+    if high < z {
+        return Signed::Not;
+    }
+    Signed::Is(z)
+}

@@ -1,0 +1,144 @@
+-- How the numbers of a request are found field by field, and what a call then replies. Assumes nothing.
+use Prim.Native.Nat.{ℕ, zero, suc, _+_, _-_, _≤_, _<_}
+use native.Mathlib.Omega.{arith}
+use native.Mathlib.Numerals.{add-one}
+use mathlib.Core.Path.{_≡_, refl, sym, _∙_, ap}
+use mathlib.Core.Bool.{Bool, true, false, cond, _&&_}
+use mathlib.Core.List.{List, [], _∷_, _++_}
+use lib.ListN.{length, getD, drop, length-drop, drop-of-length-le}
+use lib.Seq.{drop-cons}
+use lib.IntN.{ℤ, pos, negℤ, natAbs}
+use lib.Signed.{leZ, _≤ℤ_}
+use Rattle.refusal.specs.Answer.{Answer, given, refused}
+use Rattle.whole.proofs.Laws.{ints}
+use Rattle.lines.specs.Text.{Found, number, none, numberOf, within}
+use Rattle.iso_date.specs.declared.Overflow.{Overflow}
+use Rattle.iso_date.specs.declared.Overflow.the-variants.{Constrain, Reject}
+use Rattle.requests.specs.Protocol.{Kind, Arguments, these, noArguments, also, arguments, Reply, question, answer, said, replyWith}
+use Rattle.requests.specs.Calls.{nameOf, isKnown, kindsOf, meaningOf, replyOf, overflowOf}
+use Rattle.requests.specs.Meaning.{Says, readAs, collect, overflowNumber}
+use Rattle.requests.specs.declared.Call.{Call}
+use Rattle.requests.specs.declared.written.Written.{Written}
+
+-- ---- a number of a type lies between its bounds
+
+within-both : (low high z w : ℤ) (a b : Bool) → leZ low z ≡ a → leZ z high ≡ b → cond (a && b) (number z) none ≡ number w → (low ≤ℤ w) × (w ≤ℤ high)
+within-both low high z w true true p q e = let s : z ≡ w = cc in rw (← s) (omega (arith, ints), omega (arith, ints))
+within-both low high z w true false p q e = let n : _≡_ {A = ℕ} 0 1 = cc in let f : ⊥ = omega arith in absurd f
+within-both low high z w false b p q e = let n : _≡_ {A = ℕ} 0 1 = cc in let f : ⊥ = omega arith in absurd f
+
+pub within-range : (low high w : ℤ) (f : Found) → within low high f ≡ number w → (low ≤ℤ w) × (w ≤ℤ high)
+unfolding within
+within-range low high w none e = let n : _≡_ {A = ℕ} 0 1 = cc in let f : ⊥ = omega arith in absurd f
+within-range low high w (number z) e = within-both low high z w (leZ low z) (leZ z high) refl refl e
+
+-- ---- the numbers, field by field
+
+also-none : (a : Found) → also a noArguments ≡ noArguments
+unfolding also
+also-none none = refl
+also-none (number z) = refl
+
+-- a wrong count of fields
+pub miscounted : (ks : List Kind) (fs : List (List ℕ)) → (length fs ≡ length ks → ⊥) → arguments ks fs ≡ noArguments
+unfolding arguments
+miscounted [] [] h = absurd (h refl)
+miscounted [] (f ∷ fs) h = refl
+miscounted (k ∷ ks) [] h = refl
+miscounted (k ∷ ks) (f ∷ fs) h = rw (miscounted ks fs (λ e. h (omega arith))) (also-none _)
+
+-- with the right count the numbers are those of the fields from the first on
+counted : (ks : List Kind) (fs : List (List ℕ)) (i : ℕ) → length fs ≡ i + length ks → arguments ks (drop i fs) ≡ collect ks fs i
+unfolding arguments collect readAs
+counted [] fs i h = let k : length fs ≤ i = omega arith in rw (drop-of-length-le fs k)
+counted (k ∷ ks) fs i h =
+    rw (drop-cons fs i [] (omega arith)) (ap (also (readAs k fs i)) (rw (← add-one i) (counted ks fs (i + 1) (omega arith))))
+
+module _ (k : Kind) (ks : List Kind) (fs : List (List ℕ)) (i : ℕ) where
+  pub collect-fails : none ≡ readAs k fs i → collect (k ∷ ks) fs i ≡ noArguments
+  unfolding collect also
+  collect-fails e = rw (← e)
+
+  pub collect-fails-later : collect ks fs (i + 1) ≡ noArguments → collect (k ∷ ks) fs i ≡ noArguments
+  unfolding collect
+  collect-fails-later e = rw e (also-none (readAs k fs i))
+
+  pub collect-more : (z : ℤ) (zs : List ℤ) → number z ≡ readAs k fs i → collect ks fs (i + 1) ≡ these zs → collect (k ∷ ks) fs i ≡ these (z ∷ zs)
+  unfolding collect also
+  collect-more z zs e f = rw (← e, f)
+
+pub collect-end : (fs : List (List ℕ)) (i : ℕ) → collect [] fs i ≡ these []
+unfolding collect
+collect-end fs i = refl
+
+-- ---- a run of fields after a group of fields
+
+abbrev joined : Arguments → Arguments → Arguments
+joined noArguments b = noArguments
+joined (these a) noArguments = noArguments
+joined (these a) (these b) = these (a ++ b)
+
+also-joined : (f : Found) (a b : Arguments) → also f (joined a b) ≡ joined (also f a) b
+unfolding also
+also-joined none a b = refl
+also-joined (number z) noArguments b = refl
+also-joined (number z) (these a) noArguments = refl
+also-joined (number z) (these a) (these b) = refl
+
+joined-none : (b : Arguments) → joined (these []) b ≡ b
+joined-none noArguments = refl
+joined-none (these b) = refl
+
+append : (ks ls : List Kind) (fs : List (List ℕ)) (i : ℕ) → collect (ks ++ ls) fs i ≡ joined (collect ks fs i) (collect ls fs (i + length ks))
+unfolding collect
+append [] ls fs i = let e : i + 0 ≡ i = omega arith in rw e (sym (joined-none (collect ls fs i)))
+append (k ∷ ks) ls fs i =
+    let e : i + 1 + length ks ≡ i + suc (length ks) = omega arith in
+    rw (append ks ls fs (i + 1), e) (also-joined (readAs k fs i) (collect ks fs (i + 1)) (collect ls fs (i + suc (length ks))))
+
+module _ (ks ls : List Kind) (fs : List (List ℕ)) (i : ℕ) where
+  pub group-fails : collect ks fs i ≡ noArguments → collect (ks ++ ls) fs i ≡ noArguments
+  group-fails e = append ks ls fs i ∙ rw e
+
+  pub group-then-fails : (zs : List ℤ) → collect ks fs i ≡ these zs → collect ls fs (i + length ks) ≡ noArguments → collect (ks ++ ls) fs i ≡ noArguments
+  group-then-fails zs e f = append ks ls fs i ∙ rw (e, f)
+
+  pub group-then : (zs ws : List ℤ) → collect ks fs i ≡ these zs → collect ls fs (i + length ks) ≡ these ws → collect (ks ++ ls) fs i ≡ these (zs ++ ws)
+  group-then zs ws e f = append ks ls fs i ∙ rw (e, f)
+
+-- ---- replies
+
+pub says-as : {w : Written} {r s : Reply} → Says w r → r ≡ s → Says w s
+says-as h e = rw e at h
+
+module _ (c : Call) (fs : List (List ℕ)) (known : isKnown c ≡ true) where
+  pub no-reply : (count : ℕ) → count ≡ length fs → (count ≡ suc (length (kindsOf c)) → ⊥) → 1 ≤ length (kindsOf c) → question ≡ replyOf c (drop 1 fs)
+  unfolding replyOf
+  no-reply count e h p =
+      rw (known, miscounted (kindsOf c) (drop 1 fs) (λ g. h (omega (arith, length-drop 1 fs))))
+
+  collected : (count : ℕ) → count ≡ length fs → count ≡ suc (length (kindsOf c)) → arguments (kindsOf c) (drop 1 fs) ≡ collect (kindsOf c) fs 1
+  collected count e h = counted (kindsOf c) fs 1 (omega arith)
+
+  pub bad-reply : (count : ℕ) → count ≡ length fs → count ≡ suc (length (kindsOf c)) → collect (kindsOf c) fs 1 ≡ noArguments → question ≡ replyOf c (drop 1 fs)
+  unfolding replyOf
+  bad-reply count e h g = rw (known, collected count e h, g)
+
+  pub good-reply : (count : ℕ) (zs : List ℤ) → count ≡ length fs → count ≡ suc (length (kindsOf c)) → collect (kindsOf c) fs 1 ≡ these zs → said (meaningOf c zs) ≡ replyOf c (drop 1 fs)
+  unfolding replyOf
+  good-reply count zs e h g = rw (known, collected count e h, g)
+
+pub overflow-back : (o : Overflow) → overflowOf (overflowNumber o) ≡ o
+overflow-back Constrain = refl
+overflow-back Reject = refl
+
+-- the field two on is the one after the next
+pub two-on : (k : Kind) (fs : List (List ℕ)) (i : ℕ) → readAs k fs (i + 2) ≡ readAs k fs (i + 1 + 1)
+two-on k fs i = let e : i + 2 ≡ i + 1 + 1 = omega arith in rw e
+
+-- a reply of three numbers that are equal to three others
+pub three-same : (a b c x y z : ℤ) → a ≡ x → b ≡ y → c ≡ z → answer 0 (a ∷ b ∷ c ∷ []) ≡ answer 0 (x ∷ y ∷ z ∷ [])
+three-same a b c x y z e f g = rw (e, f, g)
+
+pub two-same : (a b x y : ℤ) → a ≡ x → b ≡ y → answer 0 (a ∷ b ∷ []) ≡ answer 0 (x ∷ y ∷ [])
+two-same a b x y e f = rw (e, f)

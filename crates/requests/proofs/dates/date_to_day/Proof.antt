@@ -1,0 +1,86 @@
+-- The count of fields, each field in turn, and the call; whatever fails is no request.
+use borrow.Author.Needs.{needs}
+use native.Mathlib.Omega.{arith}
+use mathlib.Core.Path.{_≡_, refl, sym, _∙_, ap}
+use mir.Facts.{toZ-ofZ, toZ-pos, sfits-widen}
+use mir.Syntax.{w32, w64}
+use mir.Val.{toZ, ofZ, SFits}
+use mathlib.Core.List.{[], _∷_}
+use lib.IntN.{ℤ, pos}
+use Prim.Native.Nat.{ℕ, _<_, _^_}
+use mathlib.Core.List.{List}
+use Rattle.refusal.specs.Answer.{Answer}
+use Rattle.lines.specs.Text.{fields}
+use Rattle.lines.specs.Meaning.{ofSigned, ofNatural}
+use Rattle.requests.specs.Protocol.{said, answer, Reply}
+use Rattle.requests.specs.Calls.{values, dateValues, yearMonthValues, dateKinds, meaningOf, overflowOf}
+use Rattle.requests.specs.Meaning.{readAs, ofInt, ofByte, ofOverflowField, ofDateFields}
+use Rattle.requests.proofs.Laws.{says-as, no-reply, bad-reply, good-reply, collect-fails, collect-fails-later, collect-more, collect-end, group-fails, group-then-fails, group-then, overflow-back}
+use Rattle.iso_date.specs.Paper.{ofDay, dateToDay}
+use Rattle.requests.specs.declared.Call.the-variants.{DateToDay}
+use Rattle.requests.proofs.dates.date_to_day.Statement.{statement}
+use Rattle.requests.proofs.dates.date_to_day.Tie as tie
+
+field-count-requires : tie.Need-field-count-requires
+field-count-requires c κs = search needs
+
+no-request-requires : tie.Need-no-request-requires
+no-request-requires c κs = search needs
+
+returns : tie.Need-returns
+returns c =
+    let f = c .before .before in
+    says-as (c .no-request .ensures) (no-reply DateToDay (fields (f .before .before .args .line .now)) refl _ (f .field-count .ensures) (c .before .if1 .taken) (omega arith))
+
+date-at-requires : tie.Need-date-at-requires
+date-at-requires c κs = search needs
+
+enum-known-date : tie.Need-enum-known-date
+enum-known-date c = search needs
+
+enum-told : tie.Need-enum-told
+enum-told c = search needs
+
+no-request-requires-2 : tie.Need-no-request-requires-2
+no-request-requires-2 c κs = search needs
+
+returns-2 : tie.Need-returns-2
+unfolding readAs
+returns-2 c =
+    let x = c .before .before .before in
+    let e = x .before in
+    says-as (c .no-request2 .ensures)
+    (bad-reply DateToDay (fields (e .before .before .before .args .line .now)) refl _ (e .before .field-count .ensures) (e .if1 .left)
+    (sym (sym (ap ofDateFields (c .before .enum-told .given .1)) ∙ x .date-at .ensures)))
+
+to-epoch-days-requires : tie.Need-to-epoch-days-requires
+to-epoch-days-requires c κs = search needs
+
+day-reply-requires : tie.Need-day-reply-requires
+day-reply-requires c κs = search needs
+
+returns-3 : tie.Need-returns-3
+unfolding readAs meaningOf
+returns-3 c =
+    let t0 = c .before .before in
+    let e = t0 .before .before .before .before in
+    says-as (c .day-reply .ensures)
+    (ap (λ (a : Answer ℤ). said (values (λ (n : ℤ). n ∷ []) a)) (c .before .to-epoch-days .ensures) ∙
+    good-reply DateToDay (fields (e .before .before .before .args .line .now)) refl _ _ (e .before .field-count .ensures) (e .if1 .left)
+    (sym (sym (ap ofDateFields (t0 .before .date .given .1)) ∙ t0 .before .before .before .date-at .ensures)))
+
+pub date-to-day-spec : {M : Type 1} → statement M
+date-to-day-spec =
+    tie.close
+    (tie.spec
+    field-count-requires
+    no-request-requires
+    returns
+    date-at-requires
+    enum-known-date
+    enum-told
+    no-request-requires-2
+    returns-2
+    to-epoch-days-requires
+    day-reply-requires
+    returns-3)

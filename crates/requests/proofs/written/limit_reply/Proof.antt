@@ -1,0 +1,42 @@
+-- Within the limits is an answer without values, a refusal is its number.
+use borrow.Author.Needs.{needs}
+use mathlib.Core.Path.{_≡_, refl, sym, _∙_, ap}
+use mathlib.Core.List.{[], _∷_}
+use Rattle.iso_date.specs.declared.LimitResult.{LimitResult}
+use Rattle.iso_date.specs.Paper.{ofLimit}
+use Rattle.requests.specs.Protocol.{said, answer, Reply}
+use Rattle.requests.specs.Calls.{values, dateValues, yearMonthValues}
+use Rattle.requests.proofs.Laws.{says-as}
+use Rattle.requests.proofs.written.limit_reply.Statement.{statement}
+use Rattle.requests.proofs.written.limit_reply.Tie as tie
+
+enum-told : tie.Need-enum-told
+enum-told c = search needs
+
+number-alone-requires : tie.Need-number-alone-requires
+number-alone-requires c κs = search needs
+
+enum-known-r : tie.Need-enum-known-r
+enum-known-r c = search needs
+
+number-alone-requires-2 : tie.Need-number-alone-requires-2
+number-alone-requires-2 c κs = search needs
+
+returns : tie.Need-returns
+returns c =
+    says-as (c .number-alone .ensures) (ap (λ (r : LimitResult). said (values (λ u. []) (ofLimit r))) (sym (c .before .enum-told .given .1)))
+
+returns-2 : tie.Need-returns-2
+returns-2 c =
+    says-as (c .number-alone2 .ensures) (ap (λ (r : LimitResult). said (values (λ u. []) (ofLimit r))) (sym (c .before .before .r .given .1)))
+
+pub limit-reply-spec : {M : Type 1} → statement M
+limit-reply-spec =
+    tie.close
+    (tie.spec
+    enum-told
+    number-alone-requires
+    enum-known-r
+    number-alone-requires-2
+    returns
+    returns-2)

@@ -1,0 +1,115 @@
+-- The calls, in the order of the protocol's table: the name, the parameters' types and what is answered.
+use Prim.Native.Nat.{ℕ, _+_}
+use Prim.Native.String.{String}
+use mathlib.Core.Bool.{Bool, true, false, cond, not}
+use mathlib.Core.List.{List, [], _∷_, _++_}
+use lib.Dec.{eqb}
+use lib.ListN.{getD, drop}
+use lib.IntN.{ℤ, pos, natAbs}
+use Rattle.refusal.specs.Answer.{Answer, given, refused}
+use Rattle.lines.specs.Text.{fields, newline}
+use Rattle.iso_date.specs.Proposal.{date}
+use Rattle.iso_date.specs.Paper.{monthLength, dateToDay, dayToDate, balanceYearMonth, regulateDate, makeDate, dateLimits, balanceDate}
+use Rattle.iso_date.specs.declared.IsoDate.{IsoDate}
+use Rattle.iso_date.specs.declared.YearMonth.{YearMonth}
+use Rattle.iso_date.specs.declared.Overflow.{Overflow}
+use Rattle.iso_date.specs.declared.Overflow.the-variants.{Constrain, Reject}
+use Rattle.requests.specs.Protocol.{Kind, signed, unsigned, oneOf, bytes, sameBytes, arguments, Reply, question, replyWith, replyText}
+use Rattle.requests.specs.declared.Call.{Call}
+use Rattle.requests.specs.declared.Call.the-variants as C
+
+-- ---- names
+
+abbrev pub nameOf : Call → String
+nameOf C.MonthLength = "month_length"
+nameOf C.DateToDay = "date_to_day"
+nameOf C.DayToDate = "day_to_date"
+nameOf C.BalanceYearMonth = "balance_year_month"
+nameOf C.RegulateDate = "regulate_date"
+nameOf C.MakeDate = "make_date"
+nameOf C.DateLimits = "date_limits"
+nameOf C.BalanceDate = "balance_date"
+nameOf C.Unknown = ""
+
+abbrev pub dateCalls : List Call
+dateCalls =
+    C.MonthLength ∷ C.DateToDay ∷ C.DayToDate ∷ C.BalanceYearMonth ∷ C.RegulateDate ∷ C.MakeDate ∷ C.DateLimits ∷ C.BalanceDate ∷ []
+
+abbrev pub everyCall : List Call
+everyCall = dateCalls
+
+-- the first call of a list that has the name
+unfoldable pub callIn : List Call → List ℕ → Call
+callIn [] name = C.Unknown
+callIn (c ∷ cs) name = cond (sameBytes name (bytes (nameOf c))) c (callIn cs name)
+
+-- ---- parameters
+
+abbrev pub dateKinds : List Kind
+dateKinds = signed 32 ∷ unsigned 8 ∷ unsigned 8 ∷ []
+
+abbrev pub overflowKind : Kind
+overflowKind = oneOf 2
+
+abbrev pub kindsOf : Call → List Kind
+kindsOf C.MonthLength = signed 32 ∷ unsigned 8 ∷ []
+kindsOf C.DateToDay = dateKinds
+kindsOf C.DayToDate = signed 64 ∷ []
+kindsOf C.BalanceYearMonth = signed 32 ∷ signed 32 ∷ []
+kindsOf C.RegulateDate = dateKinds ++ (overflowKind ∷ [])
+kindsOf C.MakeDate = dateKinds ++ (overflowKind ∷ [])
+kindsOf C.DateLimits = dateKinds
+kindsOf C.BalanceDate = signed 32 ∷ signed 32 ∷ signed 64 ∷ []
+kindsOf C.Unknown = []
+
+-- ---- answers: the numbers of a request as the call's parameters, and an answer's values in their order
+
+abbrev pub at : List ℤ → ℕ → ℤ
+at zs i = getD zs i (pos 0)
+
+abbrev pub natAt : List ℤ → ℕ → ℕ
+natAt zs i = natAbs (at zs i)
+
+abbrev pub dateAt : List ℤ → ℕ → IsoDate
+dateAt zs i = date (at zs i) (natAt zs (i + 1)) (natAt zs (i + 2))
+
+abbrev pub overflowOf : ℤ → Overflow
+overflowOf z = cond (eqb (natAbs z) 0) Constrain Reject
+
+abbrev pub values : {A : Type 0} → (A → List ℤ) → Answer A → Answer (List ℤ)
+values show (given a) = given (show a)
+values show (refused n) = refused n
+
+abbrev pub dateValues : IsoDate → List ℤ
+dateValues d = d .year ∷ pos (d .month) ∷ pos (d .day) ∷ []
+
+abbrev pub yearMonthValues : YearMonth → List ℤ
+yearMonthValues m = m .year ∷ pos (m .month) ∷ []
+
+unfoldable pub meaningOf : Call → List ℤ → Answer (List ℤ)
+meaningOf C.MonthLength zs = values (λ n. pos n ∷ []) (monthLength (at zs 0) (natAt zs 1))
+meaningOf C.DateToDay zs = values (λ n. n ∷ []) (dateToDay (dateAt zs 0))
+meaningOf C.DayToDate zs = values dateValues (dayToDate (at zs 0))
+meaningOf C.BalanceYearMonth zs = given (yearMonthValues (balanceYearMonth (at zs 0) (at zs 1)))
+meaningOf C.RegulateDate zs = values dateValues (regulateDate (dateAt zs 0) (overflowOf (at zs 3)))
+meaningOf C.MakeDate zs = values dateValues (makeDate (dateAt zs 0) (overflowOf (at zs 3)))
+meaningOf C.DateLimits zs = values (λ u. []) (dateLimits (dateAt zs 0))
+meaningOf C.BalanceDate zs = values dateValues (balanceDate (at zs 0) (at zs 1) (at zs 2))
+meaningOf C.Unknown zs = given []
+
+-- ---- the reply to a line
+
+abbrev pub isKnown : Call → Bool
+isKnown c = not (sameBytes (bytes (nameOf c)) [])
+
+unfoldable pub replyOf : Call → List (List ℕ) → Reply
+replyOf c numbers = cond (isKnown c) (replyWith (meaningOf c) (arguments (kindsOf c) numbers)) question
+
+-- the first field is the name, the others are the numbers
+unfoldable pub replyTo : List ℕ → Reply
+replyTo line = replyOf (callIn everyCall (getD (fields line) 0 [])) (drop 1 (fields line))
+
+-- the line that answers a line: an empty one for an empty one
+unfoldable pub responseTo : List ℕ → List ℕ
+responseTo [] = newline ∷ []
+responseTo (b ∷ bs) = replyText (replyTo (b ∷ bs))
