@@ -2,22 +2,26 @@
 use Prim.Native.Nat.{ℕ, zero, suc, _+_, _-_, _≤_, _<_}
 use native.Mathlib.Omega.{arith}
 use native.Mathlib.Numerals.{add-one}
-use mathlib.Core.Path.{_≡_, refl, sym, _∙_, ap}
+use mathlib.Core.Path.{_≡_, refl, sym, _∙_, ap, ap₂}
 use mathlib.Core.Bool.{Bool, true, false, cond, _&&_}
 use mathlib.Core.List.{List, [], _∷_, _++_}
-use lib.ListN.{length, getD, drop, length-drop, drop-of-length-le}
+use lib.ListN.{length, getD, take, drop, length-drop, drop-of-length-le}
+use lib.Dec.{eqb}
+use borrow.Author.Tests.{eq-eqb, eqb-true}
 use lib.Seq.{drop-cons}
 use lib.IntN.{ℤ, pos, negℤ, natAbs}
 use lib.Signed.{leZ, _≤ℤ_}
 use Rattle.refusal.specs.Answer.{Answer, given, refused}
 use Rattle.whole.proofs.Laws.{ints}
-use Rattle.lines.specs.Text.{Found, number, none, numberOf, within}
+use Rattle.lines.specs.Text.{fields, Found, number, none, numberOf, within, newline, answerText, questionText}
+use Rattle.lines.specs.Wrote.{Wrote}
 use Rattle.iso_date.specs.declared.Overflow.{Overflow}
 use Rattle.iso_date.specs.declared.Overflow.the-variants.{Constrain, Reject}
-use Rattle.requests.specs.Protocol.{Kind, Arguments, these, noArguments, also, arguments, Reply, question, answer, said, replyWith}
-use Rattle.requests.specs.Calls.{nameOf, isKnown, kindsOf, meaningOf, replyOf, overflowOf}
+use Rattle.requests.specs.Protocol.{bytes, sameBytes, Kind, Arguments, these, noArguments, also, arguments, Reply, question, answer, said, replyWith, replyText}
+use Rattle.requests.specs.Calls.{nameOf, callIn, everyCall, isKnown, kindsOf, meaningOf, replyOf, replyTo, responseTo, overflowOf}
 use Rattle.requests.specs.Meaning.{Says, readAs, collect, overflowNumber}
 use Rattle.requests.specs.declared.Call.{Call}
+use Rattle.requests.specs.declared.Call.the-variants.{Unknown}
 use Rattle.requests.specs.declared.written.Written.{Written}
 
 -- ---- a number of a type lies between its bounds
@@ -142,3 +146,68 @@ three-same a b c x y z e f g = rw (e, f, g)
 
 pub two-same : (a b x y : ℤ) → a ≡ x → b ≡ y → answer 0 (a ∷ b ∷ []) ≡ answer 0 (x ∷ y ∷ [])
 two-same a b x y e f = rw (e, f)
+
+-- ---- which call a name is
+
+-- what `check::same` says of its answer
+abbrev pub SameAs : Bool → List ℕ → List ℕ → Type 0
+SameAs r a b = (r ≡ true → a ≡ b) × (a ≡ b → r ≡ true)
+
+same-refl : (a : List ℕ) → sameBytes a a ≡ true
+same-refl [] = refl
+same-refl (x ∷ a) = simp (eq-eqb x x refl, same-refl a)
+
+same-eq : (a b : List ℕ) → sameBytes a b ≡ true → a ≡ b
+same-eq [] [] e = refl
+same-eq [] (y ∷ b) e = let n : _≡_ {A = ℕ} 0 1 = cc in let f : ⊥ = omega arith in absurd f
+same-eq (x ∷ a) [] e = let n : _≡_ {A = ℕ} 0 1 = cc in let f : ⊥ = omega arith in absurd f
+same-eq (x ∷ a) (y ∷ b) e =
+    let s = both (eqb x y) (sameBytes a b) e in ap₂ (λ (n : ℕ) (l : List ℕ). n ∷ l) (eqb-true x y (s .0)) (same-eq a b (s .1))
+  where
+    both : (p q : Bool) → (p && q) ≡ true → (p ≡ true) × (q ≡ true)
+    both true q e = (refl, e)
+    both false q e = let n : _≡_ {A = ℕ} 0 1 = cc in let f : ⊥ = omega arith in absurd f
+
+module _ (c : Call) (cs : List Call) (name : List ℕ) (r : Bool) (said : SameAs r name (bytes (nameOf c))) where
+  pub this-call : r ≡ true → callIn (c ∷ cs) name ≡ c
+  unfolding callIn
+  this-call e = rw (said .0 e) (rw (same-refl (bytes (nameOf c))))
+
+  pub next-call : r ≡ false → callIn (c ∷ cs) name ≡ callIn cs name
+  unfolding callIn
+  next-call e = rw (other (sameBytes name (bytes (nameOf c))) refl)
+    where
+      other : (t : Bool) → sameBytes name (bytes (nameOf c)) ≡ t → sameBytes name (bytes (nameOf c)) ≡ false
+      other true f = let n : _≡_ {A = ℕ} 0 1 = cc (said .1 (same-eq name (bytes (nameOf c)) f)) in let g : ⊥ = omega arith in absurd g
+      other false f = f
+
+pub reply-as : (c call : Call) (name line : List ℕ) → call ≡ callIn everyCall name → name ≡ getD (fields line) 0 [] → call ≡ c →
+    replyOf c (drop 1 (fields line)) ≡ replyTo line
+unfolding replyTo
+reply-as c call name line e f g = rw (← f, ← e, g)
+
+pub unknown-reply : (numbers : List (List ℕ)) → question ≡ replyOf Unknown numbers
+unfolding replyOf
+unknown-reply numbers = refl
+
+-- ---- the line that is written
+
+pub empty-response : (line : List ℕ) → length line ≡ 0 → newline ∷ [] ≡ responseTo line
+unfolding responseTo
+empty-response [] h = refl
+empty-response (b ∷ bs) h = let f : ⊥ = omega arith in absurd f
+
+module _ (line : List ℕ) (w : Written) (some : length line ≡ 0 → ⊥) (says : Says w (replyTo line)) where
+  response : (l : List ℕ) → (length l ≡ 0 → ⊥) → responseTo l ≡ replyText (replyTo l)
+  unfolding responseTo
+  response [] h = absurd (h refl)
+  response (b ∷ bs) h = refl
+
+  pub answer-response : w .known ≡ true → answerText (w .number) (take (w .count) (w .values)) ≡ responseTo line
+  answer-response e = ap replyText (rw e at (says .reply-is)) ∙ sym (response line some)
+
+  pub question-response : w .known ≡ false → questionText ≡ responseTo line
+  question-response e = ap replyText (rw e at (says .reply-is)) ∙ sym (response line some)
+
+pub wrote-as : {before after : List ℕ} {at end : ℕ} {a b : List ℕ} → Wrote before at a after end → a ≡ b → Wrote before at b after end
+wrote-as h e = rw e at h

@@ -9,7 +9,10 @@ pub use read::DateFields;
 pub use read::Int;
 pub use read::OverflowField;
 pub use written::Written;
+use check::same;
 ghost use mathlib.Core.Path.{_≡_};
+ghost use Rattle.requests.specs.Calls.{callIn, dateCalls, everyCall, replyTo};
+ghost use Rattle.requests.specs.Meaning.{Says};
 
 // The calls that a request can name, in the order of the protocol's table.
 pub enum Call {
@@ -22,4 +25,59 @@ pub enum Call {
     DateLimits,
     BalanceDate,
     Unknown,
+}
+
+// The call that a name is, or none.
+pub fn call_named(name: &[u8]) -> Call
+    ensures { λ r. ⌜ r ≡ callIn everyCall (now (name .entry)) ⌝ }
+{
+    date_call(name)
+}
+
+fn date_call(name: &[u8]) -> Call
+    ensures { λ r. ⌜ r ≡ callIn dateCalls (now (name .entry)) ⌝ }
+{
+    if same(name, b"month_length") {
+        return Call::MonthLength;
+    }
+    if same(name, b"date_to_day") {
+        return Call::DateToDay;
+    }
+    if same(name, b"day_to_date") {
+        return Call::DayToDate;
+    }
+    if same(name, b"balance_year_month") {
+        return Call::BalanceYearMonth;
+    }
+    if same(name, b"regulate_date") {
+        return Call::RegulateDate;
+    }
+    if same(name, b"make_date") {
+        return Call::MakeDate;
+    }
+    if same(name, b"date_limits") {
+        return Call::DateLimits;
+    }
+    if same(name, b"balance_date") {
+        return Call::BalanceDate;
+    }
+    Call::Unknown
+}
+
+// The reply to a line: an answer with its values, a refusal's number, or no request.
+pub fn reply_to(line: &[u8]) -> Written
+    ensures { λ r. ⌜ Says r (replyTo (now (line .entry))) ⌝ }
+{
+    let call = call_named(lines::field(line, 0));
+    match call {
+        Call::MonthLength => dates::month_length(line),
+        Call::DateToDay => dates::date_to_day(line),
+        Call::DayToDate => dates::day_to_date(line),
+        Call::BalanceYearMonth => dates::balance_year_month(line),
+        Call::RegulateDate => dates::regulate_date(line),
+        Call::MakeDate => dates::make_date(line),
+        Call::DateLimits => dates::date_limits(line),
+        Call::BalanceDate => dates::balance_date(line),
+        Call::Unknown => written::no_request(),
+    }
 }

@@ -1,0 +1,147 @@
+-- The first field names the call; its reply is that of the call.
+use borrow.Author.Needs.{needs}
+use mathlib.Core.Path.{_≡_, refl, sym, _∙_, ap}
+use Rattle.requests.specs.declared.Call.the-variants.{MonthLength, DateToDay, DayToDate, BalanceYearMonth, RegulateDate, MakeDate, DateLimits, BalanceDate, Unknown}
+use Rattle.requests.proofs.Laws.{says-as, reply-as, unknown-reply}
+use Rattle.requests.proofs.reply_to.Statement.{statement}
+use Rattle.requests.proofs.reply_to.Tie as tie
+
+field-requires : tie.Need-field-requires
+field-requires c κs = search needs
+
+call-named-requires : tie.Need-call-named-requires
+call-named-requires c κs = search needs
+
+enum-told : tie.Need-enum-told
+enum-told c = search needs
+
+month-length-requires : tie.Need-month-length-requires
+month-length-requires c κs = search needs
+
+enum-told-2 : tie.Need-enum-told-2
+enum-told-2 c = search needs
+
+date-to-day-requires : tie.Need-date-to-day-requires
+date-to-day-requires c κs = search needs
+
+enum-told-3 : tie.Need-enum-told-3
+enum-told-3 c = search needs
+
+day-to-date-requires : tie.Need-day-to-date-requires
+day-to-date-requires c κs = search needs
+
+enum-told-4 : tie.Need-enum-told-4
+enum-told-4 c = search needs
+
+balance-year-month-requires : tie.Need-balance-year-month-requires
+balance-year-month-requires c κs = search needs
+
+enum-told-5 : tie.Need-enum-told-5
+enum-told-5 c = search needs
+
+regulate-date-requires : tie.Need-regulate-date-requires
+regulate-date-requires c κs = search needs
+
+enum-told-6 : tie.Need-enum-told-6
+enum-told-6 c = search needs
+
+make-date-requires : tie.Need-make-date-requires
+make-date-requires c κs = search needs
+
+enum-told-7 : tie.Need-enum-told-7
+enum-told-7 c = search needs
+
+date-limits-requires : tie.Need-date-limits-requires
+date-limits-requires c κs = search needs
+
+enum-told-8 : tie.Need-enum-told-8
+enum-told-8 c = search needs
+
+balance-date-requires : tie.Need-balance-date-requires
+balance-date-requires c κs = search needs
+
+enum-told-9 : tie.Need-enum-told-9
+enum-told-9 c = search needs
+
+no-request-requires : tie.Need-no-request-requires
+no-request-requires c κs = search needs
+
+returns : tie.Need-returns
+returns c =
+    let t = c .before .before .before in
+    says-as (c .month-length .ensures) (reply-as MonthLength _ _ _ (t .call-named .ensures) (t .before .field .ensures) (c .before .enum-told .given .1))
+
+returns-2 : tie.Need-returns-2
+returns-2 c =
+    let t = c .before .before .before in
+    says-as (c .date-to-day .ensures) (reply-as DateToDay _ _ _ (t .call-named .ensures) (t .before .field .ensures) (c .before .enum-told2 .given .1))
+
+returns-3 : tie.Need-returns-3
+returns-3 c =
+    let t = c .before .before .before in
+    says-as (c .day-to-date .ensures) (reply-as DayToDate _ _ _ (t .call-named .ensures) (t .before .field .ensures) (c .before .enum-told3 .given .1))
+
+returns-4 : tie.Need-returns-4
+returns-4 c =
+    let t = c .before .before .before in
+    says-as (c .balance-year-month .ensures) (reply-as BalanceYearMonth _ _ _ (t .call-named .ensures) (t .before .field .ensures) (c .before .enum-told4 .given .1))
+
+returns-5 : tie.Need-returns-5
+returns-5 c =
+    let t = c .before .before .before in
+    says-as (c .regulate-date .ensures) (reply-as RegulateDate _ _ _ (t .call-named .ensures) (t .before .field .ensures) (c .before .enum-told5 .given .1))
+
+returns-6 : tie.Need-returns-6
+returns-6 c =
+    let t = c .before .before .before in
+    says-as (c .make-date .ensures) (reply-as MakeDate _ _ _ (t .call-named .ensures) (t .before .field .ensures) (c .before .enum-told6 .given .1))
+
+returns-7 : tie.Need-returns-7
+returns-7 c =
+    let t = c .before .before .before in
+    says-as (c .date-limits .ensures) (reply-as DateLimits _ _ _ (t .call-named .ensures) (t .before .field .ensures) (c .before .enum-told7 .given .1))
+
+returns-8 : tie.Need-returns-8
+returns-8 c =
+    let t = c .before .before .before in
+    says-as (c .balance-date .ensures) (reply-as BalanceDate _ _ _ (t .call-named .ensures) (t .before .field .ensures) (c .before .enum-told8 .given .1))
+
+returns-9 : tie.Need-returns-9
+returns-9 c =
+    let t = c .before .before .before in
+    says-as (c .no-request .ensures)
+    (unknown-reply _ ∙ reply-as Unknown _ _ _ (t .call-named .ensures) (t .before .field .ensures) (c .before .enum-told9 .given .1))
+
+pub reply-to-spec : {M : Type 1} → statement M
+reply-to-spec =
+    tie.close
+    (tie.spec
+    field-requires
+    call-named-requires
+    enum-told
+    month-length-requires
+    enum-told-2
+    date-to-day-requires
+    enum-told-3
+    day-to-date-requires
+    enum-told-4
+    balance-year-month-requires
+    enum-told-5
+    regulate-date-requires
+    enum-told-6
+    make-date-requires
+    enum-told-7
+    date-limits-requires
+    enum-told-8
+    balance-date-requires
+    enum-told-9
+    no-request-requires
+    returns
+    returns-2
+    returns-3
+    returns-4
+    returns-5
+    returns-6
+    returns-7
+    returns-8
+    returns-9)
