@@ -1,4 +1,4 @@
--- How the answers of the paper come out of their checks, one law for each way through the code. Assumes nothing.
+-- How the answers of the rules come out of their checks, one law for each way through the code. Assumes nothing.
 use Prim.Native.Nat.{ℕ, zero, suc, _+_, _-_, _*_, _/_, _%_, _^_, _≤_, _<_, min, max}
 use native.Mathlib.Omega.{arith}
 use mathlib.Core.Path.{_≡_, refl, sym, _∙_, ap}

@@ -2,7 +2,7 @@
 //!
 //! They agree where the lines are the same, or where the Rust refuses (it has one error) and the console gives one of
 //! its refusal numbers. Where they may part, an entry below says for which requests, what the Rust does there and what
-//! document 01 answers, and the console has to give just that answer. An entry counts only if its number stands in
+//! the rules answer, and the console has to give just that answer. An entry counts only if its number stands in
 //! DIFFERENCES.
 
 use lines::days::{date_of, day_number, month_length};
@@ -41,7 +41,7 @@ fn main() {
                 println!("    console: {}", console.escape_ascii());
                 println!("    oracle:  {}", oracle.escape_ascii());
                 if let Some((at, paper)) = &listed {
-                    println!("    {}: document 01 has {paper:?}", entries[*at].number);
+                    println!("    {}: the rules have {paper:?}", entries[*at].number);
                 }
             }
         }
@@ -71,7 +71,7 @@ fn is_refusal(line: &[u8]) -> bool {
     matches!(line, [b'1'..=b'8'])
 }
 
-/// The entry that the Rust's answer to a request falls under, and document 01's answer to it.
+/// The entry that the Rust's answer to a request falls under, and the rules' answer to it.
 fn explanation(entries: &[&Entry], request: &[u8], oracle: &[u8]) -> Option<(usize, Paper)> {
     let request = Request::read(request)?;
     let rust = Rust::read(oracle)?;
@@ -115,7 +115,7 @@ impl Rust {
     }
 }
 
-/// An answer of document 01: a refusal number or values.
+/// An answer of the rules: a refusal number or values.
 #[derive(PartialEq, Debug)]
 enum Paper {
     Refusal(u8),
@@ -144,7 +144,7 @@ fn values(line: &[u8]) -> Option<Vec<i128>> {
 struct Entry {
     number: &'static str,
     title: &'static str,
-    /// Document 01's answer, where the entry tells of this request and of what the Rust does with it.
+    /// The rules' answer, where the entry tells of this request and of what the Rust does with it.
     paper: fn(&Request, &Rust) -> Option<Paper>,
 }
 
@@ -165,7 +165,7 @@ const ENTRIES: &[Entry] = &[
     Entry { number: "D-14", title: "the Rust does not check an instant", paper: instant_unchecked },
 ];
 
-/// A refusal by document 01, where a condition holds.
+/// A refusal by the rules, where a condition holds.
 fn refusal_if(condition: bool, number: u8) -> Option<Paper> {
     condition.then_some(Paper::Refusal(number))
 }
@@ -205,7 +205,7 @@ fn days_unbounded(request: &Request, rust: &Rust) -> Option<Paper> {
     refusal_if(day.abs() > LAST_BALANCED && *rust == far, 4)
 }
 
-/// D-4: document 01 goes by the exact count. The Rust adds the years of the months in 32 bits and the day in 64, and
+/// D-4: the rules go by the exact count. The Rust adds the years of the months in 32 bits and the day in 64, and
 /// takes the size of the sum, each of which may overflow.
 fn balance_overflows(request: &Request, rust: &Rust) -> Option<Paper> {
     let n = request.numbers();
@@ -305,7 +305,7 @@ fn date_time_unbounded(request: &Request, rust: &Rust) -> Option<Paper> {
     Some(balanced_date_time(n)).filter(|paper| *paper == Paper::Refusal(4))
 }
 
-/// D-13: document 01 goes by the exact sum of day and carry. The Rust cuts the carry to 32 bits, adds it to the day in
+/// D-13: the rules go by the exact sum of day and carry. The Rust cuts the carry to 32 bits, adds it to the day in
 /// 32 bits, and adds the years of the months in 32 bits: it answers another date, or overflows.
 fn date_time_cut(request: &Request, rust: &Rust) -> Option<Paper> {
     let n = request.numbers();
@@ -350,7 +350,7 @@ fn instant_by_milliseconds(instant: i128, offset: i128) -> Rust {
     Rust::Values([date_values(count), time].concat())
 }
 
-// ---- Document 01's rules, as far as the entries lean on them ----
+// ---- The rules' rules, as far as the entries lean on them ----
 
 const LAST_BALANCED: i128 = 100_000_001;
 const LAST_TIME_FIELD: i128 = (1 << 53) - 1;

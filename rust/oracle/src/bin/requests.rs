@@ -1,6 +1,6 @@
 //! Makes the requests of a comparison: `requests SEED N CALL..` writes N lines for each call, the same for a seed.
 //!
-//! The fixed lines of a call come first: the readings of document 01 and the smallest inputs of the listed differences.
+//! The fixed lines of a call come first: the readings of the rules and the smallest inputs of the listed differences.
 //! The rest is drawn at random, most of it from around the places where an answer turns: limits, ends of types, month
 //! ends, leap days, ties, bounds. About one line in 200 is spoiled so that it is no request.
 
