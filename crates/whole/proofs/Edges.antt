@@ -2,6 +2,7 @@
 -- Assumes nothing.
 use Prim.Native.Nat.{ℕ, zero, suc, _+_, _-_, _/_, _%_, _≤_, _<_, _^_}
 use native.Mathlib.Nat.{div-le-self, mod-lt}
+use native.Mathlib.Numerals.{add-one}
 use native.Mathlib.Omega.{arith}
 use mathlib.Core.Path.{_≡_, refl, sym, _∙_, ap}
 use mathlib.Core.Bool.{true, false}
@@ -122,3 +123,11 @@ pub clamp-same : (x low high : ℤ) → low ≤ℤ x → x ≤ℤ high → x ≡
 unfolding clampZ
 clamp-same x low high h k =
     let t : ltZ x low ≡ false = omega (arith, ints) in let s : ltZ high x ≡ false = omega (arith, ints) in rw (t, s)
+
+-- a size and its sign
+pub negated-is : (n : ℕ) → (n ≡ 0 → ⊥) → negsuc (n - 1) ≡ negℤ (pos n)
+negated-is zero h = absurd (h refl)
+negated-is (suc n) h = let e : suc n - 1 ≡ n = omega arith in ap negsuc e
+
+pub size-is : (x : ℤ) (n : ℕ) → x ≡ negsuc n → x ≡ negℤ (pos (n + 1))
+size-is x n e = e ∙ sym (ap (λ (k : ℕ). negℤ (pos k)) (add-one n))

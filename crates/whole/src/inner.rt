@@ -1,7 +1,7 @@
 // The way from a signed number to a natural and back, and division rounded down.
 ghost use mathlib.Core.Path.{_≡_};
 ghost use Prim.Native.Nat.{_+_, _<_, _≤_, _^_};
-ghost use lib.IntN.{pos, negsuc};
+ghost use lib.IntN.{pos, negsuc, negℤ};
 ghost use lib.Signed.{_≤ℤ_, _<ℤ_};
 ghost use Rattle.whole.specs.Whole.{_⊖_, fdiv, fmod};
 
@@ -89,4 +89,23 @@ pub fn floor_mod(x: i64, d: u64) -> u64
         return d - 1 - below(x) % d;
     }
     above(x) % d
+}
+
+// -n, for an n up to 2^63.
+pub fn negated(n: u64) -> i64
+    requires { ⌜ n ≤ 2 ^ 63 ⌝ }
+    ensures { λ r. ⌜ r ≡ negℤ (pos n) ⌝ }
+{
+    if n == 0 {
+        return 0;
+    }
+    minus(n - 1)
+}
+
+// The size of a negative number.
+pub fn size_below(x: i64) -> u64
+    requires { ⌜ x <ℤ pos 0 ⌝ }
+    ensures { λ r. ⌜ (x ≡ negℤ (pos r)) × ((1 ≤ r) × (r ≤ 2 ^ 63)) ⌝ }
+{
+    below(x) + 1
 }
