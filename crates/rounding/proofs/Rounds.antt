@@ -165,6 +165,10 @@ module _ (m step : ℕ) (rule : UnsignedRoundingMode) (p : 0 < step) where
       let t : Bool = takesUp rule (eqb (m / step % 2) 1) (m - m / step * step) (step - (m - m / step * step)) in
       (m / step + cond t 1 0, (rw (applied (pos (m / step)) (m % step) (step - m % step) rule, odd-two (m / step), ← left-is m step p) refl, up-times (m / step) step t))
 
+  -- what comes out is a multiple of the step
+  pub rounded-multiple : (q : ℕ) × (q * step ≡ roundedSize m step rule)
+  rounded-multiple = (size-quotient .0, size-quotient .1 .1)
+
   pub positive-round : roundQuotient (pos m) step rule *ℤ pos step ≡ pos (roundedSize m step rule)
   positive-round = rw (size-quotient .1 .0) (ap pos (size-quotient .1 .1))
 
@@ -306,7 +310,7 @@ in-below (suc n) = go (leb (suc n) (2 ^ 63)) refl
 
 -- the number by its sign and size
 module _ (m step : ℕ) (mode : RoundingMode) (p : 0 < step) where
-  number-above : roundNumberToIncrement (pos m) step mode ≡ pos (roundedSize m step (getUnsignedRoundingMode mode false))
+  pub number-above : roundNumberToIncrement (pos m) step mode ≡ pos (roundedSize m step (getUnsignedRoundingMode mode false))
   unfolding roundNumberToIncrement
   number-above = rw (le-ltb m 0 (omega arith)) (positive-round m step (getUnsignedRoundingMode mode false) p)
 
@@ -348,3 +352,14 @@ module _ (x : ℤ) (step : ℕ) (mode : RoundingMode) (rule : UnsignedRoundingMo
   pub round-below-as-if : rule ≡ getUnsignedRoundingMode mode false → x ≡ negℤ (pos m) → negativeSize (sized (roundedBelow m step rule) (2 ^ 63)) ≡ roundNumberAsIfPositive x step mode
   unfolding roundNumberAsIfPositive roundNumberToIncrementAsIfPositive
   round-below-as-if r e = rw (e, ← r, below-round m step rule step-some) (in-below _ ∙ sym (checked _))
+
+-- a small size, by the choice that was made
+pub small-up : (m step : ℕ) (rule : UnsignedRoundingMode) (up : Bool) →
+    up ≡ takesUp rule (eqb (m / step % 2) 1) (m - m / step * step) (step - (m - m / step * step)) → up ≡ true → m / step * step + step ≡ roundedSize m step rule
+unfolding roundedSize
+small-up m step rule up e t = rw (← e, t)
+
+pub small-down : (m step : ℕ) (rule : UnsignedRoundingMode) (up : Bool) →
+    up ≡ takesUp rule (eqb (m / step % 2) 1) (m - m / step * step) (step - (m - m / step * step)) → up ≡ false → m / step * step ≡ roundedSize m step rule
+unfolding roundedSize
+small-down m step rule up e t = rw (← e, t) (omega arith)

@@ -123,3 +123,17 @@ pub fn round_size_below(size: u64, step: u64, rule: UnsignedRoundingMode) -> Siz
     let up = takes_up(rule, q % 2 == 0, step - left, left);
     multiple(nearer_zero, step, !up, 0x8000_0000_0000_0000)
 }
+
+// A size rounded to a step by a rule, where both are small enough that the result is a number of 64 bits.
+pub fn round_small(size: u64, step: u64, rule: UnsignedRoundingMode) -> u64
+    requires { ⌜ (0 < step) × (size + step < 2 ^ 63) ⌝ }
+    ensures { λ r. ⌜ (r ≡ roundedSize size step rule) × (r ≤ size + step) ⌝ }
+{
+    let q = size / step;
+    let lower = q * step;
+    let left = size - lower;
+    if takes_up(rule, q % 2 == 1, left, step - left) {
+        return lower + step;
+    }
+    lower
+}

@@ -1,0 +1,211 @@
+// Times as one number, the nanoseconds since midnight, and fields raised to naturals.
+use crate::BalancedTime;
+use crate::IsoTime;
+use crate::TimeDuration;
+use options::Unit;
+use rounding::RoundingMode;
+
+ghost use mathlib.Core.Path.{_≡_};
+ghost use mathlib.Core.Bool.{true};
+ghost use Prim.Native.Nat.{_+_, _*_, _≤_, _<_, _^_};
+ghost use lib.IntN.{natAbs, pos, _-ℤ_};
+ghost use Rattle.whole.specs.Whole.{_⊖_};
+ghost use Rattle.iso_time.specs.Proposal.{isValidTime, balanceTime, nsFromMillisecond, nanoseconds, quantity, unitLength, dividend, validIncrement, roundTime, inSeconds};
+ghost use Rattle.iso_time.specs.Inner.{fieldBias, nsPerDay, Carried};
+
+// More than the bound of a field to be balanced, and divided by each of 1000, 60 and 24 as often as the carry meets them.
+const FIELD_BIAS: u64 = 10_800_000_000_000_000;
+// What the hours are raised by in the end, over 24.
+const DAYS_BIAS: u64 = 457_625_125_125_125;
+const NS_PER_DAY: u64 = 86_400_000_000_000;
+
+// A field to be balanced, as a natural.
+fn field_up(x: i64) -> u64
+    requires { ⌜ natAbs x ≤ 9007199254740991 ⌝ }
+    ensures { λ r. ⌜ (x ≡ r ⊖ fieldBias) × (r < 20000000000000000) ⌝ }
+{
+    whole::inner::raise(x, FIELD_BIAS)
+}
+
+// The nanoseconds since midnight.
+pub fn nanoseconds_of(t: IsoTime) -> u64
+    requires { ⌜ isValidTime t ≡ true ⌝ }
+    ensures { λ r. ⌜ (r ≡ nanoseconds t) × (r < nsPerDay) ⌝ }
+{
+    let minutes = t.hour as u64 * 60 + t.minute as u64;
+    let seconds = minutes * 60 + t.second as u64;
+    let millis = seconds * 1000 + t.millisecond as u64;
+    let micros = millis * 1000 + t.microsecond as u64;
+    micros * 1000 + t.nanosecond as u64
+}
+
+// The time that lies n nanoseconds after midnight.
+pub fn time_at(n: u64) -> IsoTime
+    requires { ⌜ n < nsPerDay ⌝ }
+    ensures { λ r. ⌜ (nanoseconds r ≡ n) × (isValidTime r ≡ true) ⌝ }
+{
+    let micros = n / 1000;
+    let millis = micros / 1000;
+    let seconds = millis / 1000;
+    let minutes = seconds / 60;
+    IsoTime {
+        hour: (minutes / 60) as u8,
+        minute: (minutes % 60) as u8,
+        second: (seconds % 60) as u8,
+        millisecond: (millis % 1000) as u16,
+        microsecond: (micros % 1000) as u16,
+        nanosecond: (n % 1000) as u16,
+    }
+}
+
+// Six fields balanced into days and a time: each carries what is over into the next, rounded down.
+pub fn balance(hour: i64, minute: i64, second: i64, millisecond: i64, microsecond: i64, nanosecond: i64) -> BalancedTime
+    requires { ⌜ (natAbs hour ≤ 9007199254740991) × ((natAbs minute ≤ 9007199254740991) × ((natAbs second ≤ 9007199254740991) × ((natAbs millisecond ≤ 9007199254740991) × ((natAbs microsecond ≤ 9007199254740991) × (natAbs nanosecond ≤ 9007199254740991))))) ⌝ }
+    ensures { λ r. ⌜ r ≡ balanceTime hour minute second millisecond microsecond nanosecond ⌝ }
+{
+    let nanos = field_up(nanosecond);
+    let micros = field_up(microsecond) + nanos / 1000;
+    let millis = field_up(millisecond) + micros / 1000;
+    let seconds = field_up(second) + millis / 1000;
+    let minutes = field_up(minute) + seconds / 60;
+    let hours = field_up(hour) + minutes / 60;
+    BalancedTime {
+        days: whole::inner::lower(hours / 24, DAYS_BIAS),
+        time: IsoTime {
+            hour: (hours % 24) as u8,
+            minute: (minutes % 60) as u8,
+            second: (seconds % 60) as u8,
+            millisecond: (millis % 1000) as u16,
+            microsecond: (micros % 1000) as u16,
+            nanosecond: (nanos % 1000) as u16,
+        },
+    }
+}
+
+// The nanoseconds of the fields below the second.
+fn below_second(t: IsoTime) -> u64
+    requires { ⌜ isValidTime t ≡ true ⌝ }
+    ensures { λ r. ⌜ (r ≡ nsFromMillisecond t) × (r < 1000000000) ⌝ }
+{
+    (t.millisecond as u64 * 1000 + t.microsecond as u64) * 1000 + t.nanosecond as u64
+}
+
+// What is rounded at a unit: the nanoseconds of its field and all below it, for day and hour of the whole time.
+pub fn quantity_of(unit: Unit, t: IsoTime) -> u64
+    requires { ⌜ isValidTime t ≡ true ⌝ }
+    ensures { λ r. ⌜ r ≡ quantity unit t ⌝ }
+{
+    match unit {
+        Unit::Day => nanoseconds_of(t),
+        Unit::Hour => nanoseconds_of(t),
+        Unit::Minute => (t.minute as u64 * 60 + t.second as u64) * 1_000_000_000 + below_second(t),
+        Unit::Second => t.second as u64 * 1_000_000_000 + below_second(t),
+        Unit::Millisecond => below_second(t),
+        Unit::Microsecond => t.microsecond as u64 * 1000 + t.nanosecond as u64,
+        Unit::Nanosecond => t.nanosecond as u64,
+        Unit::Year => 0,
+        Unit::Month => 0,
+        Unit::Week => 0,
+    }
+}
+
+// The length of a unit in nanoseconds; 0 for those that a time is not rounded to.
+pub fn length_of(unit: Unit) -> u64
+    ensures { λ r. ⌜ (r ≡ unitLength unit) × (r ≤ nsPerDay) ⌝ }
+{
+    match unit {
+        Unit::Year => 0,
+        Unit::Month => 0,
+        Unit::Week => 0,
+        Unit::Day => NS_PER_DAY,
+        Unit::Hour => 3_600_000_000_000,
+        Unit::Minute => 60_000_000_000,
+        Unit::Second => 1_000_000_000,
+        Unit::Millisecond => 1_000_000,
+        Unit::Microsecond => 1000,
+        Unit::Nanosecond => 1,
+    }
+}
+
+// How many of a unit make the next; 0 for day and above.
+fn dividend_of(unit: Unit) -> u64
+    ensures { λ r. ⌜ r ≡ dividend unit ⌝ }
+{
+    match unit {
+        Unit::Year => 0,
+        Unit::Month => 0,
+        Unit::Week => 0,
+        Unit::Day => 0,
+        Unit::Hour => 24,
+        Unit::Minute => 60,
+        Unit::Second => 60,
+        Unit::Millisecond => 1000,
+        Unit::Microsecond => 1000,
+        Unit::Nanosecond => 1000,
+    }
+}
+
+// Whether an increment is allowed at a unit: 1 for day, a proper divisor of how many make the next for the others.
+pub fn is_increment(unit: Unit, increment: u64) -> bool
+    ensures { λ r. ⌜ r ≡ validIncrement unit increment ⌝ }
+{
+    let whole = dividend_of(unit);
+    if whole == 0 {
+        return increment == 1;
+    }
+    if increment == 0 {
+        return false;
+    }
+    if whole <= increment {
+        return false;
+    }
+    whole % increment == 0
+}
+
+// A time rounded at a unit, with the day that may be over. The larger fields stay: the quantity is taken out of the time, rounded, and
+// put back.
+pub fn round(t: IsoTime, unit: Unit, increment: u64, mode: RoundingMode) -> BalancedTime
+    requires { ⌜ (isValidTime t ≡ true) × ((0 < unitLength unit) × (validIncrement unit increment ≡ true)) ⌝ }
+    ensures { λ r. ⌜ r ≡ roundTime t increment unit mode ⌝ }
+{
+    let quantity = quantity_of(unit, t);
+    let rule = rounding::inner::get_unsigned_round_mode(mode, false);
+    let rounded = rounding::inner::round_small(quantity, increment * length_of(unit), rule);
+    carried(nanoseconds_of(t) - quantity + rounded)
+}
+
+// The day and the time of a number of nanoseconds below two days.
+fn carried(n: u64) -> BalancedTime
+    requires { ⌜ n < nsPerDay + nsPerDay ⌝ }
+    ensures { λ r. ⌜ Carried n r ⌝ }
+{
+    if n < NS_PER_DAY {
+        return BalancedTime {
+            days: 0,
+            time: time_at(n),
+        };
+    }
+    BalancedTime {
+        days: 1,
+        time: time_at(n - NS_PER_DAY),
+    }
+}
+
+// From one nanosecond of the day to another, as whole seconds and nanoseconds of one sign.
+pub fn span(one: u64, two: u64) -> TimeDuration
+    requires { ⌜ (one < nsPerDay) × (two < nsPerDay) ⌝ }
+    ensures { λ r. ⌜ r ≡ inSeconds (pos two -ℤ pos one) ⌝ }
+{
+    if one <= two {
+        let n = two - one;
+        return TimeDuration {
+            seconds: whole::inner::plus(n / 1_000_000_000),
+            nanoseconds: whole::inner::plus(n % 1_000_000_000),
+        };
+    }
+    let n = one - two;
+    TimeDuration {
+        seconds: whole::inner::negated(n / 1_000_000_000),
+        nanoseconds: whole::inner::negated(n % 1_000_000_000),
+    }
+}
