@@ -1,3 +1,4 @@
 pub mod Checks
 pub mod Rounding
+pub mod Theorems
 pub mod Times

@@ -104,7 +104,7 @@ multiple-of q inc len r p e =
     let f : q * inc * len ≡ r = mul-assoc q inc len ∙ e in
     (rw (← f) (mul-div-cancel (q * inc) p), f)
 
-module _ (t : IsoTime) (unit : TimeUnit) (inc : ℕ) (mode : RoundingMode) (valid : isValidTime t ≡ true) (some : 0 < unitLength unit)
+module _ (t : IsoTime) (unit : TimeUnit) (inc : ℕ) (mode : RoundingMode) (some : 0 < unitLength unit)
     (ok : validIncrement unit inc ≡ true) where
   abbrev step : ℕ
   step = inc * unitLength unit
@@ -120,6 +120,13 @@ module _ (t : IsoTime) (unit : TimeUnit) (inc : ℕ) (mode : RoundingMode) (vali
       let m = rounded-multiple (quantity unit t) step (getUnsignedRoundingMode mode false) p in
       let w = multiple-of (m .0) inc (unitLength unit) result some (m .1) in
       (rw (number-above (quantity unit t) step mode p) refl, rw (w .0) (w .1))
+
+  -- one law for every unit: the larger fields are kept, and the quantity rounded by the number rounder stands in place of the quantity
+  pub round-exact : exact (roundTime t inc unit mode) ≡ pos (nanoseconds t - quantity unit t + result)
+  unfolding roundTime
+  round-exact =
+      let u = units-are in
+      rw (u .0) (with-units unit t (result / unitLength unit) some .0 ∙ ap pos (rw (u .1) refl))
 
   pub round-is : (b : BalancedTime) (n q len r : ℕ) (rule : UnsignedRoundingMode) → n ≡ nanoseconds t → q ≡ quantity unit t → len ≡ unitLength unit →
       rule ≡ getUnsignedRoundingMode mode false → r ≡ roundedSize q (inc * len) rule → Carried (n - q + r) b → b ≡ roundTime t inc unit mode

@@ -157,6 +157,9 @@ up-times q step false = omega arith
 neg-times : (n step : ℕ) → negℤ (pos n) *ℤ pos step ≡ negℤ (pos (n * step))
 neg-times n step = simp whole (omega arith)
 
+true-false : true ≡ false → ⊥
+true-false e = let z : _≡_ {A = ℕ} 0 1 = ap (λ (b : Bool). cond b 0 1) e in omega arith
+
 module _ (m step : ℕ) (rule : UnsignedRoundingMode) (p : 0 < step) where
   -- the quotient that comes out is the floor, or one more
   size-quotient : (q : ℕ) × ((roundQuotient (pos m) step rule ≡ pos q) × (q * step ≡ roundedSize m step rule))
@@ -168,6 +171,21 @@ module _ (m step : ℕ) (rule : UnsignedRoundingMode) (p : 0 < step) where
   -- what comes out is a multiple of the step
   pub rounded-multiple : (q : ℕ) × (q * step ≡ roundedSize m step rule)
   rounded-multiple = (size-quotient .0, size-quotient .1 .1)
+
+  -- and nearer to the size than a step
+  pub rounded-near : (roundedSize m step rule < m + step) × (m < roundedSize m step rule + step)
+  unfolding roundedSize
+  rounded-near = go (takesUp rule (eqb (m / step % 2) 1) (m - m / step * step) (step - (m - m / step * step))) refl
+    where
+      go : (t : Bool) → takesUp rule (eqb (m / step % 2) 1) (m - m / step * step) (step - (m - m / step * step)) ≡ t →
+          (roundedSize m step rule < m + step) × (m < roundedSize m step rule + step)
+      go false e = rw e (omega (arith, lower-le m step p, left-lt m step p), omega (arith, lower-le m step p, left-lt m step p))
+      go true e =
+          let some : m / step * step < m =
+              ⊎-elim (λ h. h)
+              (λ h. absurd (true-false (sym e ∙ takes-none rule (eqb (m / step % 2) 1) (m - m / step * step) (step - (m - m / step * step)) (omega (arith, h)))))
+              (split (m / step * step) m) in
+          rw e (omega arith, omega (arith, lower-le m step p, left-lt m step p))
 
   pub positive-round : roundQuotient (pos m) step rule *ℤ pos step ≡ pos (roundedSize m step rule)
   positive-round = rw (size-quotient .1 .0) (ap pos (size-quotient .1 .1))

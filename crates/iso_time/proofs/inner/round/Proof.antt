@@ -59,7 +59,7 @@ returns : tie.Need-returns
 returns c =
     let s = c .before .before .before .before .before .before in
     let r = c .before .before in
-    round-is (s .args .t) (s .args .unit) (s .args .increment) (s .args .mode) (s .pre .0) (s .pre .1 .0) (s .pre .1 .1) _ _ _ _ _ _
+    round-is (s .args .t) (s .args .unit) (s .args .increment) (s .args .mode) (s .pre .1 .0) (s .pre .1 .1) _ _ _ _ _ _
     (c .before .nanoseconds-of .ensures .0) (r .before .before .before .quantity-of .ensures) (r .before .length-of .ensures .0)
     (r .before .before .get-unsigned-round-mode .ensures) (r .round-small .ensures .0) (c .carried .ensures)
 

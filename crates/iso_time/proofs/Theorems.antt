@@ -1,0 +1,80 @@
+-- What holds of times beyond the contracts. Assumes nothing.
+use Prim.Native.Nat.{ℕ, zero, suc, _+_, _-_, _*_, _/_, _%_, _≤_, _<_}
+use native.Mathlib.Nat.{div-add-mod}
+use native.Mathlib.Omega.{arith}
+use mathlib.Core.Path.{_≡_, refl, sym, _∙_, ap}
+use mathlib.Core.Bool.{true, false}
+use lib.IntN.{ℤ, pos, negsuc, negℤ, _+ℤ_, _-ℤ_, _*ℤ_}
+use lib.Signed.{quotZ, remZ}
+use Rattle.whole.proofs.Laws.{whole, ints, read-add, read-neg}
+use Rattle.options.specs.declared.Unit.{Unit as TimeUnit}
+use Rattle.rounding.specs.Proposal.{getUnsignedRoundingMode}
+use Rattle.rounding.specs.Inner.{roundedSize}
+use Rattle.rounding.specs.declared.RoundingMode.{RoundingMode}
+use Rattle.rounding.proofs.Rounds.{rounded-multiple, rounded-near}
+use Rattle.iso_time.specs.Proposal.{isValidTime, balanceTime, nanoseconds, differenceTime, quantity, unitLength, roundTime, validIncrement}
+use Rattle.iso_time.specs.declared.IsoTime.{IsoTime}
+use Rattle.iso_time.specs.declared.BalancedTime.{BalancedTime}
+use Rattle.iso_time.specs.declared.TimeDuration.{TimeDuration}
+use Rattle.iso_time.proofs.Times.{Valid, exact, flat, show-valid, balance-exact, balance-valid, one-balanced}
+use Rattle.iso_time.proofs.Rounding.{step-some, round-exact}
+
+-- ---- balancing is inverse to flattening
+
+-- the exact nanoseconds of carry and time are the sum of the fields
+pub balance-keeps : (h m s ms us ns : ℤ) → exact (balanceTime h m s ms us ns) ≡ flat h m s ms us ns
+balance-keeps = balance-exact
+
+pub balance-is-valid : (h m s ms us ns : ℤ) → isValidTime (balanceTime h m s ms us ns .time) ≡ true
+balance-is-valid h m s ms us ns = show-valid (balanceTime h m s ms us ns .time) (balance-valid h m s ms us ns)
+
+-- and no other carry with a valid time has them
+pub balance-is-one : (h m s ms us ns : ℤ) (b : BalancedTime) → Valid (b .time) → exact b ≡ flat h m s ms us ns → b ≡ balanceTime h m s ms us ns
+balance-is-one h m s ms us ns b v e =
+    one-balanced b (balanceTime h m s ms us ns) v (balance-valid h m s ms us ns) (e ∙ sym (balance-exact h m s ms us ns))
+
+-- ---- the difference of two times added to the first gives the second
+
+cut-back : (z : ℤ) → pos 1000000000 *ℤ quotZ z (pos 1000000000) +ℤ remZ z (pos 1000000000) ≡ z
+cut-back (pos n) = ap pos (omega (arith, div-add-mod n 1000000000))
+cut-back (negsuc n) = simp whole (omega (arith, div-add-mod (suc n) 1000000000))
+
+plus-less : (a b : ℤ) → a +ℤ (b -ℤ a) ≡ b
+plus-less a b = omega (arith, ints, read-add a (b -ℤ a), read-add b (negℤ a), read-neg a)
+
+abbrev pub nanosecondsOf : TimeDuration → ℤ
+nanosecondsOf d = pos 1000000000 *ℤ d .seconds +ℤ d .nanoseconds
+
+pub difference-adds-back : (one two : IsoTime) → pos (nanoseconds one) +ℤ nanosecondsOf (differenceTime one two) ≡ pos (nanoseconds two)
+unfolding differenceTime
+difference-adds-back one two =
+    ap (λ (z : ℤ). pos (nanoseconds one) +ℤ z) (cut-back (pos (nanoseconds two) -ℤ pos (nanoseconds one))) ∙
+    plus-less (pos (nanoseconds one)) (pos (nanoseconds two))
+
+-- ---- a rounded time is a multiple of the step within the field, and nearer than one step
+
+pub record Near (t : IsoTime) (unit : TimeUnit) (step : ℕ) (b : BalancedTime) : Type 0 where
+  -- the nanoseconds that stand in place of the quantity
+  pub rounded : ℕ
+  pub larger-kept : exact b ≡ pos (nanoseconds t - quantity unit t + rounded)
+  pub times : ℕ
+  pub multiple : times * step ≡ rounded
+  pub not-far-above : rounded < quantity unit t + step
+  pub not-far-below : quantity unit t < rounded + step
+
+pub rounded-time-is-near : (t : IsoTime) (unit : TimeUnit) (inc : ℕ) (mode : RoundingMode) → isValidTime t ≡ true → 0 < unitLength unit →
+    validIncrement unit inc ≡ true → Near t unit (inc * unitLength unit) (roundTime t inc unit mode)
+rounded-time-is-near t unit inc mode v some ok =
+    let q : ℕ = quantity unit t in
+    let step : ℕ = inc * unitLength unit in
+    let p : 0 < step = step-some unit inc some ok in
+    let m = rounded-multiple q step (getUnsignedRoundingMode mode false) p in
+    let n = rounded-near q step (getUnsignedRoundingMode mode false) p in
+    record {
+      rounded = roundedSize q step (getUnsignedRoundingMode mode false);
+      larger-kept = round-exact t unit inc mode some ok;
+      times = m .0;
+      multiple = m .1;
+      not-far-above = n .0;
+      not-far-below = n .1
+    }
