@@ -15,8 +15,8 @@ use Rattle.iso_date.specs.Proposal.{date, leapYear, monthLengths, isoDay
 use Rattle.iso_date.specs.Paper.{monthLength, balanced, yearMonth, balanceYearMonth, dateToDay, dayToDate, regulateDate, makeDate, limited, dateLimits, balanceDate}
 use Rattle.iso_date.specs.Inner.{yearBias, monthBias, dayBias, Balances}
 use Rattle.iso_date.specs.declared.IsoDate.{IsoDate}
-use Rattle.iso_date.specs.declared.Overflow.{Overflow}
-use Rattle.iso_date.specs.declared.Overflow.the-variants.{Constrain, Reject}
+use Rattle.options.specs.declared.Overflow.{Overflow}
+use Rattle.options.specs.declared.Overflow.the-variants.{Constrain, Reject}
 use Rattle.iso_date.proofs.Dates.{Valid, show-valid, read-valid, plain-month}
 use Rattle.iso_date.proofs.Tables.{length-least}
 

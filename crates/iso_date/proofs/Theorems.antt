@@ -40,12 +40,15 @@ limits-are d = (inside (epochDays d), (λ h. limits-in (epochDays d) (h .0) (h .
   where
     clash : {A : Type 0} (b : Bool) → b ≡ true → b ≡ false → A
     clash b e f = let z : _≡_ {A = ℕ} 0 1 = cc in let n : ⊥ = omega arith in absurd n
+
     high : (n : ℤ) → momentWithinLimits n noon ≡ true → (t : Bool) → leZ n (pos 100000000) ≡ t → n ≤ℤ pos 100000000
     high n e true f = omega (arith, ints)
     high n e false f = clash (momentWithinLimits n noon) e (limits-high n (omega (arith, ints)))
+
     low : (n : ℤ) → momentWithinLimits n noon ≡ true → (t : Bool) → ltZ n (negℤ (pos 100000001)) ≡ t → negℤ (pos 100000001) ≤ℤ n
     low n e true f = clash (momentWithinLimits n noon) e (limits-low n (omega (arith, ints)))
     low n e false f = omega (arith, ints)
+
     inside : (n : ℤ) → momentWithinLimits n noon ≡ true → (negℤ (pos 100000001) ≤ℤ n) × (n ≤ℤ pos 100000000)
     inside n e = (low n e (ltZ n (negℤ (pos 100000001))) refl, high n e (leZ n (pos 100000000)) refl)
 
@@ -59,6 +62,7 @@ months-carry y m d k =
   where
     moved : (m q k : ℤ) (r : ℕ) → m ≡ pos 12 *ℤ q +ℤ pos r → m +ℤ pos 12 *ℤ k ≡ pos 12 *ℤ (q +ℤ k) +ℤ pos r
     moved m q k r e = rw (e, parts q, parts k) (simp whole (omega arith))
+
     regroup : (a b c : ℤ) → a +ℤ (b +ℤ c) ≡ a +ℤ c +ℤ b
     regroup a b c = rw (parts a, parts b, parts c) (simp whole (omega arith))
 

@@ -9,8 +9,8 @@ use Rattle.whole.specs.Whole.{clampZ}
 use Rattle.iso_date.specs.Proposal.{date, epochDays, epochDaysToISODate, isValidISODate, isoDaysInMonth, isoDateToEpochDays, balancedYear, balancedMonth, constrainISODate, isoDateWithinLimits}
 use Rattle.iso_date.specs.declared.IsoDate.{IsoDate}
 use Rattle.iso_date.specs.declared.YearMonth.{YearMonth}
-use Rattle.iso_date.specs.declared.Overflow.{Overflow}
-use Rattle.iso_date.specs.declared.Overflow.the-variants.{Constrain, Reject}
+use Rattle.options.specs.declared.Overflow.{Overflow}
+use Rattle.options.specs.declared.Overflow.the-variants.{Constrain, Reject}
 use Rattle.iso_date.specs.declared.MonthLength as MonthLength
 use Rattle.iso_date.specs.declared.MonthLength.the-variants as L
 use Rattle.iso_date.specs.declared.DayResult as DayResult

@@ -1,16 +1,11 @@
 // Dates of the ISO calendar: day counts and month lengths, the year-month balance, regulating and the limits.
 pub mod inner;
 
+use options::Overflow;
 ghost use mathlib.Core.Path.{_≡_};
 ghost use mathlib.Core.Bool.{true};
 ghost use Rattle.iso_date.specs.Proposal.{date, isValidISODate, constrainISODate};
 ghost use Rattle.iso_date.specs.Paper.{ofMonthLength, ofDay, ofDate, ofLimit, monthLength, dateToDay, dayToDate, balanceYearMonth, regulateDate, makeDate, dateLimits, balanceDate};
-
-// What becomes of a field that is out of its range.
-pub enum Overflow {
-    Constrain,
-    Reject,
-}
 
 // A date's fields. Any numbers may stand in them; each call that takes a record checks it.
 pub struct IsoDate {

@@ -83,7 +83,7 @@ pub span-back : (one two : ℕ) (s n : ℤ) → two < one → s ≡ negℤ (pos 
     duration s n ≡ inSeconds (pos two -ℤ pos one)
 span-back one two s n h e f =
     let z : pos two -ℤ pos one ≡ negℤ (pos (one - two)) =
-        omega (arith, ints, read-add (pos two) (negℤ (pos one)), read-neg (pos one), read-neg (pos (one - two))) in
+    omega (arith, ints, read-add (pos two) (negℤ (pos one)), read-neg (pos one), read-neg (pos (one - two))) in
     rw (z, e, f) (sym (cut-below (one - two) (omega arith)))
 
 pub difference-is : (one two : IsoTime) (n m : ℕ) (d : TimeDuration) → isValidTime one ≡ true → isValidTime two ≡ true → n ≡ nanoseconds one → m ≡ nanoseconds two →

@@ -28,9 +28,10 @@ unfolding unitLength quantity nanoseconds
 with-units U.Year t k h = let f : ⊥ = omega arith in absurd f
 with-units U.Month t k h = let f : ⊥ = omega arith in absurd f
 with-units U.Week t k h = let f : ⊥ = omega arith in absurd f
-with-units U.Day t k h =
-    (ap pos (omega arith),
-    record { hours = omega arith; minutes = omega arith; seconds = omega arith; millis = omega arith; micros = omega arith; nanos = omega arith })
+with-units U.Day t k h = (
+  ap pos (omega arith),
+  record { hours = omega arith; minutes = omega arith; seconds = omega arith; millis = omega arith; micros = omega arith; nanos = omega arith },
+)
 with-units U.Hour t k h = (balance-exact _ _ _ _ _ _ ∙ ap pos (omega arith), balance-valid _ _ _ _ _ _)
 with-units U.Minute t k h = (balance-exact _ _ _ _ _ _ ∙ ap pos (omega arith), balance-valid _ _ _ _ _ _)
 with-units U.Second t k h = (balance-exact _ _ _ _ _ _ ∙ ap pos (omega arith), balance-valid _ _ _ _ _ _)

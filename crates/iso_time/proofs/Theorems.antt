@@ -76,5 +76,5 @@ rounded-time-is-near t unit inc mode v some ok =
       times = m .0;
       multiple = m .1;
       not-far-above = n .0;
-      not-far-below = n .1
+      not-far-below = n .1;
     }

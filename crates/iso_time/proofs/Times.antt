@@ -43,7 +43,7 @@ read-valid t e =
       seconds = leb-true _ _ (c .0);
       millis = leb-true _ _ (d .0);
       micros = leb-true _ _ (f .0);
-      nanos = leb-true _ _ (f .1)
+      nanos = leb-true _ _ (f .1);
     }
 
 pub show-valid : (t : IsoTime) → Valid t → isValidTime t ≡ true
@@ -64,10 +64,11 @@ timeAt n =
 
 pub time-at-is : (n : ℕ) → n < nsPerDay → (nanoseconds (timeAt n) ≡ n) × (isValidTime (timeAt n) ≡ true)
 unfolding nanoseconds
-time-at-is n h =
-    (omega arith,
-    show-valid (timeAt n)
-    (record { hours = omega arith; minutes = omega arith; seconds = omega arith; millis = omega arith; micros = omega arith; nanos = omega arith }))
+time-at-is n h = (
+  omega arith,
+  show-valid (timeAt n)
+      (record { hours = omega arith; minutes = omega arith; seconds = omega arith; millis = omega arith; micros = omega arith; nanos = omega arith }),
+)
 
 -- two times with equal fields
 pub time-eq : (a b c d e f a′ b′ c′ d′ e′ f′ : ℕ) → a ≡ a′ → b ≡ b′ → c ≡ c′ → d ≡ d′ → e ≡ e′ → f ≡ f′ → time a b c d e f ≡ time a′ b′ c′ d′ e′ f′
@@ -175,7 +176,7 @@ balance-valid h m s ms us ns =
       seconds = omega (arith, fmod-lt s′ 60 (omega arith));
       millis = omega (arith, fmod-lt ms′ 1000 (omega arith));
       micros = omega (arith, fmod-lt us′ 1000 (omega arith));
-      nanos = omega (arith, fmod-lt ns 1000 (omega arith))
+      nanos = omega (arith, fmod-lt ns 1000 (omega arith));
     }
 
 -- days and a valid time are told by their exact nanoseconds

@@ -4,7 +4,6 @@ use crate::IsoTime;
 use crate::TimeDuration;
 use options::Unit;
 use rounding::RoundingMode;
-
 ghost use mathlib.Core.Path.{_≡_};
 ghost use mathlib.Core.Bool.{true};
 ghost use Prim.Native.Nat.{_+_, _*_, _≤_, _<_, _^_};
@@ -17,6 +16,7 @@ ghost use Rattle.iso_time.specs.Inner.{fieldBias, nsPerDay, Carried};
 const FIELD_BIAS: u64 = 10_800_000_000_000_000;
 // What the hours are raised by in the end, over 24.
 const DAYS_BIAS: u64 = 457_625_125_125_125;
+
 const NS_PER_DAY: u64 = 86_400_000_000_000;
 
 // A field to be balanced, as a natural.
@@ -59,7 +59,14 @@ pub fn time_at(n: u64) -> IsoTime
 }
 
 // Six fields balanced into days and a time: each carries what is over into the next, rounded down.
-pub fn balance(hour: i64, minute: i64, second: i64, millisecond: i64, microsecond: i64, nanosecond: i64) -> BalancedTime
+pub fn balance(
+    hour: i64,
+    minute: i64,
+    second: i64,
+    millisecond: i64,
+    microsecond: i64,
+    nanosecond: i64,
+) -> BalancedTime
     requires { ⌜ (natAbs hour ≤ 9007199254740991) × ((natAbs minute ≤ 9007199254740991) × ((natAbs second ≤ 9007199254740991) × ((natAbs millisecond ≤ 9007199254740991) × ((natAbs microsecond ≤ 9007199254740991) × (natAbs nanosecond ≤ 9007199254740991))))) ⌝ }
     ensures { λ r. ⌜ r ≡ balanceTime hour minute second millisecond microsecond nanosecond ⌝ }
 {

@@ -87,7 +87,14 @@ fn is_bounded(x: i64) -> bool
     x <= MOST
 }
 
-fn are_bounded(hour: i64, minute: i64, second: i64, millisecond: i64, microsecond: i64, nanosecond: i64) -> bool
+fn are_bounded(
+    hour: i64,
+    minute: i64,
+    second: i64,
+    millisecond: i64,
+    microsecond: i64,
+    nanosecond: i64,
+) -> bool
     ensures { λ r. ⌜ r ≡ allBounded hour minute second millisecond microsecond nanosecond ⌝ }
 {
     if !is_bounded(hour) {
@@ -132,7 +139,15 @@ impl IsoTime {
     }
 
     // The fields made valid: constrained, or 1 under reject where they are not.
-    pub fn new(hour: u8, minute: u8, second: u8, millisecond: u16, microsecond: u16, nanosecond: u16, overflow: Overflow) -> TimeResult
+    pub fn new(
+        hour: u8,
+        minute: u8,
+        second: u8,
+        millisecond: u16,
+        microsecond: u16,
+        nanosecond: u16,
+        overflow: Overflow,
+    ) -> TimeResult
         ensures { λ r. ⌜ ofTime r ≡ regulateTime (time hour minute second millisecond microsecond nanosecond) overflow ⌝ }
     {
         let fields = IsoTime {
@@ -156,13 +171,27 @@ impl IsoTime {
     }
 
     // Six fields of any size up to 9,007,199,254,740,991 (else 7) as days and a time; what is over is carried, rounded down.
-    pub fn balance(hour: i64, minute: i64, second: i64, millisecond: i64, microsecond: i64, nanosecond: i64) -> BalanceResult
+    pub fn balance(
+        hour: i64,
+        minute: i64,
+        second: i64,
+        millisecond: i64,
+        microsecond: i64,
+        nanosecond: i64,
+    ) -> BalanceResult
         ensures { λ r. ⌜ ofBalance r ≡ balanceTimeFields hour minute second millisecond microsecond nanosecond ⌝ }
     {
         if !are_bounded(hour, minute, second, millisecond, microsecond, nanosecond) {
             return BalanceResult::Refused(refusal::BOUND);
         }
-        BalanceResult::Balanced(inner::balance(hour, minute, second, millisecond, microsecond, nanosecond))
+        BalanceResult::Balanced(inner::balance(
+            hour,
+            minute,
+            second,
+            millisecond,
+            microsecond,
+            nanosecond,
+        ))
     }
 
     // The span from this time to another: the fields of each (1), then whole seconds and nanoseconds, cut towards zero.

@@ -15,11 +15,16 @@ use Rattle.refusal.specs.Answer.{Answer, given, refused}
 use Rattle.whole.proofs.Laws.{ints}
 use Rattle.lines.specs.Text.{fields, Found, number, none, numberOf, within, newline, answerText, questionText}
 use Rattle.lines.specs.Wrote.{Wrote}
-use Rattle.iso_date.specs.declared.Overflow.{Overflow}
-use Rattle.iso_date.specs.declared.Overflow.the-variants.{Constrain, Reject}
+use Rattle.options.specs.declared.Overflow.{Overflow}
+use Rattle.options.specs.declared.Overflow.the-variants.{Constrain, Reject}
+use Rattle.options.specs.declared.Unit.{Unit as TimeUnit}
+use Rattle.options.specs.declared.Unit.the-variants as U
+use Rattle.rounding.specs.declared.RoundingMode.{RoundingMode}
+use Rattle.rounding.specs.declared.RoundingMode.the-variants as M
+use Rattle.iso_time.specs.declared.IsoTime.{IsoTime}
 use Rattle.requests.specs.Protocol.{bytes, sameBytes, Kind, Arguments, these, noArguments, also, arguments, Reply, question, answer, said, replyWith, replyText}
-use Rattle.requests.specs.Calls.{nameOf, callIn, everyCall, isKnown, kindsOf, meaningOf, replyOf, replyTo, responseTo, overflowOf}
-use Rattle.requests.specs.Meaning.{Says, readAs, collect, overflowNumber}
+use Rattle.requests.specs.Calls.{units, modes, unitOf, modeOf, timeValues, nameOf, callIn, everyCall, isKnown, kindsOf, meaningOf, replyOf, replyTo, responseTo, overflowOf}
+use Rattle.requests.specs.Meaning.{Says, readAs, collect, overflowNumber, unitNumber, modeNumber}
 use Rattle.requests.specs.declared.Call.{Call}
 use Rattle.requests.specs.declared.Call.the-variants.{Unknown}
 use Rattle.requests.specs.declared.written.Written.{Written}
@@ -38,7 +43,7 @@ within-range low high w (number z) e = within-both low high z w (leZ low z) (leZ
 
 -- ---- the numbers, field by field
 
-also-none : (a : Found) → also a noArguments ≡ noArguments
+pub also-none : (a : Found) → also a noArguments ≡ noArguments
 unfolding also
 also-none none = refl
 also-none (number z) = refl
@@ -136,13 +141,77 @@ pub overflow-back : (o : Overflow) → overflowOf (overflowNumber o) ≡ o
 overflow-back Constrain = refl
 overflow-back Reject = refl
 
--- the field two on is the one after the next
-pub two-on : (k : Kind) (fs : List (List ℕ)) (i : ℕ) → readAs k fs (i + 2) ≡ readAs k fs (i + 1 + 1)
-two-on k fs i = let e : i + 2 ≡ i + 1 + 1 = omega arith in rw e
+-- ---- units and modes by their numbers
+
+pub unit-back : (u : TimeUnit) → unitOf (unitNumber u) ≡ u
+unit-back U.Year = refl
+unit-back U.Month = refl
+unit-back U.Week = refl
+unit-back U.Day = refl
+unit-back U.Hour = refl
+unit-back U.Minute = refl
+unit-back U.Second = refl
+unit-back U.Millisecond = refl
+unit-back U.Microsecond = refl
+unit-back U.Nanosecond = refl
+
+pub mode-back : (m : RoundingMode) → modeOf (modeNumber m) ≡ m
+mode-back M.Ceil = refl
+mode-back M.Floor = refl
+mode-back M.Expand = refl
+mode-back M.Trunc = refl
+mode-back M.HalfCeil = refl
+mode-back M.HalfFloor = refl
+mode-back M.HalfExpand = refl
+mode-back M.HalfTrunc = refl
+mode-back M.HalfEven = refl
+
+pub unit-number : (n : ℕ) → n < 10 → unitNumber (getD units n U.Year) ≡ pos n
+unit-number zero h = refl
+unit-number (suc zero) h = refl
+unit-number (suc (suc zero)) h = refl
+unit-number (suc (suc (suc zero))) h = refl
+unit-number (suc (suc (suc (suc zero)))) h = refl
+unit-number (suc (suc (suc (suc (suc zero))))) h = refl
+unit-number (suc (suc (suc (suc (suc (suc zero)))))) h = refl
+unit-number (suc (suc (suc (suc (suc (suc (suc zero))))))) h = refl
+unit-number (suc (suc (suc (suc (suc (suc (suc (suc zero)))))))) h = refl
+unit-number (suc (suc (suc (suc (suc (suc (suc (suc (suc zero))))))))) h = refl
+unit-number (suc (suc (suc (suc (suc (suc (suc (suc (suc (suc n)))))))))) h = let f : ⊥ = omega arith in absurd f
+
+pub mode-number : (n : ℕ) → n < 9 → modeNumber (getD modes n M.Ceil) ≡ pos n
+mode-number zero h = refl
+mode-number (suc zero) h = refl
+mode-number (suc (suc zero)) h = refl
+mode-number (suc (suc (suc zero))) h = refl
+mode-number (suc (suc (suc (suc zero)))) h = refl
+mode-number (suc (suc (suc (suc (suc zero))))) h = refl
+mode-number (suc (suc (suc (suc (suc (suc zero)))))) h = refl
+mode-number (suc (suc (suc (suc (suc (suc (suc zero))))))) h = refl
+mode-number (suc (suc (suc (suc (suc (suc (suc (suc zero)))))))) h = refl
+mode-number (suc (suc (suc (suc (suc (suc (suc (suc (suc n))))))))) h = let f : ⊥ = omega arith in absurd f
+
+-- the field two on is the one after the next, and so on
+module _ (k : Kind) (fs : List (List ℕ)) (i : ℕ) where
+  pub two-on : readAs k fs (i + 2) ≡ readAs k fs (i + 1 + 1)
+  two-on = let e : i + 2 ≡ i + 1 + 1 = omega arith in rw e
+
+  pub three-on : readAs k fs (i + 3) ≡ readAs k fs (i + 1 + 1 + 1)
+  three-on = let e : i + 3 ≡ i + 1 + 1 + 1 = omega arith in rw e
+
+  pub four-on : readAs k fs (i + 4) ≡ readAs k fs (i + 1 + 1 + 1 + 1)
+  four-on = let e : i + 4 ≡ i + 1 + 1 + 1 + 1 = omega arith in rw e
+
+  pub five-on : readAs k fs (i + 5) ≡ readAs k fs (i + 1 + 1 + 1 + 1 + 1)
+  five-on = let e : i + 5 ≡ i + 1 + 1 + 1 + 1 + 1 = omega arith in rw e
 
 -- a reply of three numbers that are equal to three others
 pub three-same : (a b c x y z : ℤ) → a ≡ x → b ≡ y → c ≡ z → answer 0 (a ∷ b ∷ c ∷ []) ≡ answer 0 (x ∷ y ∷ z ∷ [])
 three-same a b c x y z e f g = rw (e, f, g)
+
+pub time-same : (t : IsoTime) (a b c d e f : ℤ) → a ≡ pos (t .hour) → b ≡ pos (t .minute) → c ≡ pos (t .second) → d ≡ pos (t .millisecond) → e ≡ pos (t .microsecond) →
+    f ≡ pos (t .nanosecond) → a ∷ b ∷ c ∷ d ∷ e ∷ f ∷ [] ≡ timeValues t
+time-same t a b c d e f p q r s u v = rw (p, q, r, s, u, v)
 
 pub two-same : (a b x y : ℤ) → a ≡ x → b ≡ y → answer 0 (a ∷ b ∷ []) ≡ answer 0 (x ∷ y ∷ [])
 two-same a b x y e f = rw (e, f)
@@ -157,16 +226,15 @@ same-refl : (a : List ℕ) → sameBytes a a ≡ true
 same-refl [] = refl
 same-refl (x ∷ a) = simp (eq-eqb x x refl, same-refl a)
 
-same-eq : (a b : List ℕ) → sameBytes a b ≡ true → a ≡ b
+pub both : (p q : Bool) → (p && q) ≡ true → (p ≡ true) × (q ≡ true)
+both true q e = (refl, e)
+both false q e = let n : _≡_ {A = ℕ} 0 1 = cc in let f : ⊥ = omega arith in absurd f
+
+pub same-eq : (a b : List ℕ) → sameBytes a b ≡ true → a ≡ b
 same-eq [] [] e = refl
 same-eq [] (y ∷ b) e = let n : _≡_ {A = ℕ} 0 1 = cc in let f : ⊥ = omega arith in absurd f
 same-eq (x ∷ a) [] e = let n : _≡_ {A = ℕ} 0 1 = cc in let f : ⊥ = omega arith in absurd f
-same-eq (x ∷ a) (y ∷ b) e =
-    let s = both (eqb x y) (sameBytes a b) e in ap₂ (λ (n : ℕ) (l : List ℕ). n ∷ l) (eqb-true x y (s .0)) (same-eq a b (s .1))
-  where
-    both : (p q : Bool) → (p && q) ≡ true → (p ≡ true) × (q ≡ true)
-    both true q e = (refl, e)
-    both false q e = let n : _≡_ {A = ℕ} 0 1 = cc in let f : ⊥ = omega arith in absurd f
+same-eq (x ∷ a) (y ∷ b) e = let s = both (eqb x y) (sameBytes a b) e in ap₂ (λ (n : ℕ) (l : List ℕ). n ∷ l) (eqb-true x y (s .0)) (same-eq a b (s .1))
 
 module _ (c : Call) (cs : List Call) (name : List ℕ) (r : Bool) (said : SameAs r name (bytes (nameOf c))) where
   pub this-call : r ≡ true → callIn (c ∷ cs) name ≡ c

@@ -1,1 +1,3 @@
 pub mod Laws
+pub mod LongLines
+pub mod Stream

@@ -12,8 +12,18 @@ use Rattle.iso_date.specs.Proposal.{date}
 use Rattle.iso_date.specs.Paper.{monthLength, dateToDay, dayToDate, balanceYearMonth, regulateDate, makeDate, dateLimits, balanceDate}
 use Rattle.iso_date.specs.declared.IsoDate.{IsoDate}
 use Rattle.iso_date.specs.declared.YearMonth.{YearMonth}
-use Rattle.iso_date.specs.declared.Overflow.{Overflow}
-use Rattle.iso_date.specs.declared.Overflow.the-variants.{Constrain, Reject}
+use Rattle.iso_time.specs.Proposal.{time}
+use Rattle.iso_time.specs.Paper.{regulateTime, balanceTimeFields, timeDifference, roundedTime}
+use Rattle.iso_time.specs.declared.IsoTime.{IsoTime}
+use Rattle.iso_time.specs.declared.BalancedTime.{BalancedTime}
+use Rattle.iso_time.specs.declared.TimeDuration.{TimeDuration}
+use Rattle.rounding.specs.Paper.{roundNumber, roundNumberAsIfPositive}
+use Rattle.rounding.specs.declared.RoundingMode.{RoundingMode}
+use Rattle.rounding.specs.declared.RoundingMode.the-variants as M
+use Rattle.options.specs.declared.Overflow.{Overflow}
+use Rattle.options.specs.declared.Overflow.the-variants.{Constrain, Reject}
+use Rattle.options.specs.declared.Unit.{Unit as TimeUnit}
+use Rattle.options.specs.declared.Unit.the-variants as U
 use Rattle.requests.specs.Protocol.{Kind, signed, unsigned, oneOf, bytes, sameBytes, arguments, Reply, question, replyWith, replyText}
 use Rattle.requests.specs.declared.Call.{Call}
 use Rattle.requests.specs.declared.Call.the-variants as C
@@ -29,14 +39,23 @@ nameOf C.RegulateDate = "regulate_date"
 nameOf C.MakeDate = "make_date"
 nameOf C.DateLimits = "date_limits"
 nameOf C.BalanceDate = "balance_date"
+nameOf C.RegulateTime = "regulate_time"
+nameOf C.BalanceTime = "balance_time"
+nameOf C.TimeDifference = "time_difference"
+nameOf C.RoundNumber = "round_number"
+nameOf C.RoundNumberAsIfPositive = "round_number_as_if_positive"
+nameOf C.RoundTime = "round_time"
 nameOf C.Unknown = ""
 
 abbrev pub dateCalls : List Call
 dateCalls =
     C.MonthLength ∷ C.DateToDay ∷ C.DayToDate ∷ C.BalanceYearMonth ∷ C.RegulateDate ∷ C.MakeDate ∷ C.DateLimits ∷ C.BalanceDate ∷ []
 
+abbrev pub timeCalls : List Call
+timeCalls = C.RegulateTime ∷ C.BalanceTime ∷ C.TimeDifference ∷ C.RoundNumber ∷ C.RoundNumberAsIfPositive ∷ C.RoundTime ∷ []
+
 abbrev pub everyCall : List Call
-everyCall = dateCalls
+everyCall = dateCalls ++ timeCalls
 
 -- the first call of a list that has the name
 unfoldable pub callIn : List Call → List ℕ → Call
@@ -51,6 +70,19 @@ dateKinds = signed 32 ∷ unsigned 8 ∷ unsigned 8 ∷ []
 abbrev pub overflowKind : Kind
 overflowKind = oneOf 2
 
+abbrev pub timeKinds : List Kind
+timeKinds = unsigned 8 ∷ unsigned 8 ∷ unsigned 8 ∷ unsigned 16 ∷ unsigned 16 ∷ unsigned 16 ∷ []
+
+-- six fields that are to be balanced
+abbrev pub partsKinds : List Kind
+partsKinds = signed 64 ∷ signed 64 ∷ signed 64 ∷ signed 64 ∷ signed 64 ∷ signed 64 ∷ []
+
+abbrev pub unitKind : Kind
+unitKind = oneOf 10
+
+abbrev pub modeKind : Kind
+modeKind = oneOf 9
+
 abbrev pub kindsOf : Call → List Kind
 kindsOf C.MonthLength = signed 32 ∷ unsigned 8 ∷ []
 kindsOf C.DateToDay = dateKinds
@@ -60,6 +92,12 @@ kindsOf C.RegulateDate = dateKinds ++ (overflowKind ∷ [])
 kindsOf C.MakeDate = dateKinds ++ (overflowKind ∷ [])
 kindsOf C.DateLimits = dateKinds
 kindsOf C.BalanceDate = signed 32 ∷ signed 32 ∷ signed 64 ∷ []
+kindsOf C.RegulateTime = timeKinds ++ (overflowKind ∷ [])
+kindsOf C.BalanceTime = partsKinds
+kindsOf C.TimeDifference = timeKinds ++ timeKinds
+kindsOf C.RoundNumber = signed 64 ∷ unsigned 64 ∷ modeKind ∷ []
+kindsOf C.RoundNumberAsIfPositive = signed 64 ∷ unsigned 64 ∷ modeKind ∷ []
+kindsOf C.RoundTime = timeKinds ++ (unitKind ∷ unsigned 64 ∷ modeKind ∷ [])
 kindsOf C.Unknown = []
 
 -- ---- answers: the numbers of a request as the call's parameters, and an answer's values in their order
@@ -76,6 +114,22 @@ dateAt zs i = date (at zs i) (natAt zs (i + 1)) (natAt zs (i + 2))
 abbrev pub overflowOf : ℤ → Overflow
 overflowOf z = cond (eqb (natAbs z) 0) Constrain Reject
 
+abbrev pub timeAt : List ℤ → ℕ → IsoTime
+timeAt zs i = time (natAt zs i) (natAt zs (i + 1)) (natAt zs (i + 2)) (natAt zs (i + 3)) (natAt zs (i + 4)) (natAt zs (i + 5))
+
+-- units and modes by their numbers, from 0
+abbrev pub units : List TimeUnit
+units = U.Year ∷ U.Month ∷ U.Week ∷ U.Day ∷ U.Hour ∷ U.Minute ∷ U.Second ∷ U.Millisecond ∷ U.Microsecond ∷ U.Nanosecond ∷ []
+
+abbrev pub modes : List RoundingMode
+modes = M.Ceil ∷ M.Floor ∷ M.Expand ∷ M.Trunc ∷ M.HalfCeil ∷ M.HalfFloor ∷ M.HalfExpand ∷ M.HalfTrunc ∷ M.HalfEven ∷ []
+
+abbrev pub unitOf : ℤ → TimeUnit
+unitOf z = getD units (natAbs z) U.Year
+
+abbrev pub modeOf : ℤ → RoundingMode
+modeOf z = getD modes (natAbs z) M.Ceil
+
 abbrev pub values : {A : Type 0} → (A → List ℤ) → Answer A → Answer (List ℤ)
 values show (given a) = given (show a)
 values show (refused n) = refused n
@@ -86,6 +140,16 @@ dateValues d = d .year ∷ pos (d .month) ∷ pos (d .day) ∷ []
 abbrev pub yearMonthValues : YearMonth → List ℤ
 yearMonthValues m = m .year ∷ pos (m .month) ∷ []
 
+abbrev pub timeValues : IsoTime → List ℤ
+timeValues t =
+    pos (t .hour) ∷ pos (t .minute) ∷ pos (t .second) ∷ pos (t .millisecond) ∷ pos (t .microsecond) ∷ pos (t .nanosecond) ∷ []
+
+abbrev pub balancedValues : BalancedTime → List ℤ
+balancedValues b = b .days ∷ timeValues (b .time)
+
+abbrev pub spanValues : TimeDuration → List ℤ
+spanValues d = d .seconds ∷ d .nanoseconds ∷ []
+
 unfoldable pub meaningOf : Call → List ℤ → Answer (List ℤ)
 meaningOf C.MonthLength zs = values (λ n. pos n ∷ []) (monthLength (at zs 0) (natAt zs 1))
 meaningOf C.DateToDay zs = values (λ n. n ∷ []) (dateToDay (dateAt zs 0))
@@ -95,6 +159,12 @@ meaningOf C.RegulateDate zs = values dateValues (regulateDate (dateAt zs 0) (ove
 meaningOf C.MakeDate zs = values dateValues (makeDate (dateAt zs 0) (overflowOf (at zs 3)))
 meaningOf C.DateLimits zs = values (λ u. []) (dateLimits (dateAt zs 0))
 meaningOf C.BalanceDate zs = values dateValues (balanceDate (at zs 0) (at zs 1) (at zs 2))
+meaningOf C.RegulateTime zs = values timeValues (regulateTime (timeAt zs 0) (overflowOf (at zs 6)))
+meaningOf C.BalanceTime zs = values balancedValues (balanceTimeFields (at zs 0) (at zs 1) (at zs 2) (at zs 3) (at zs 4) (at zs 5))
+meaningOf C.TimeDifference zs = values spanValues (timeDifference (timeAt zs 0) (timeAt zs 6))
+meaningOf C.RoundNumber zs = values (λ n. n ∷ []) (roundNumber (at zs 0) (natAt zs 1) (modeOf (at zs 2)))
+meaningOf C.RoundNumberAsIfPositive zs = values (λ n. n ∷ []) (roundNumberAsIfPositive (at zs 0) (natAt zs 1) (modeOf (at zs 2)))
+meaningOf C.RoundTime zs = values balancedValues (roundedTime (timeAt zs 0) (unitOf (at zs 6)) (natAt zs 7) (modeOf (at zs 8)))
 meaningOf C.Unknown zs = given []
 
 -- ---- the reply to a line

@@ -1,17 +1,24 @@
 // The requests of the line protocol and their answers: a line in, the line that answers it out.
-pub mod inner;
 mod dates;
+pub mod inner;
 mod read;
+mod times;
 mod written;
 
+use check::same;
 pub use read::Byte;
 pub use read::DateFields;
 pub use read::Int;
+pub use read::ModeField;
 pub use read::OverflowField;
+pub use read::Parts;
+pub use read::PartsFields;
+pub use read::Short;
+pub use read::TimeFields;
+pub use read::UnitField;
 pub use written::Written;
-use check::same;
 ghost use mathlib.Core.Path.{_≡_};
-ghost use Rattle.requests.specs.Calls.{callIn, dateCalls, everyCall, replyTo};
+ghost use Rattle.requests.specs.Calls.{callIn, timeCalls, everyCall, replyTo};
 ghost use Rattle.requests.specs.Meaning.{Says};
 
 // The calls that a request can name, in the order of the protocol's table.
@@ -24,18 +31,18 @@ pub enum Call {
     MakeDate,
     DateLimits,
     BalanceDate,
+    RegulateTime,
+    BalanceTime,
+    TimeDifference,
+    RoundNumber,
+    RoundNumberAsIfPositive,
+    RoundTime,
     Unknown,
 }
 
-// The call that a name is, or none.
+// The call that a name is, or none: the calls on dates, then those on times.
 pub fn call_named(name: &[u8]) -> Call
     ensures { λ r. ⌜ r ≡ callIn everyCall (now (name .entry)) ⌝ }
-{
-    date_call(name)
-}
-
-fn date_call(name: &[u8]) -> Call
-    ensures { λ r. ⌜ r ≡ callIn dateCalls (now (name .entry)) ⌝ }
 {
     if same(name, b"month_length") {
         return Call::MonthLength;
@@ -61,6 +68,30 @@ fn date_call(name: &[u8]) -> Call
     if same(name, b"balance_date") {
         return Call::BalanceDate;
     }
+    time_call(name)
+}
+
+fn time_call(name: &[u8]) -> Call
+    ensures { λ r. ⌜ r ≡ callIn timeCalls (now (name .entry)) ⌝ }
+{
+    if same(name, b"regulate_time") {
+        return Call::RegulateTime;
+    }
+    if same(name, b"balance_time") {
+        return Call::BalanceTime;
+    }
+    if same(name, b"time_difference") {
+        return Call::TimeDifference;
+    }
+    if same(name, b"round_number") {
+        return Call::RoundNumber;
+    }
+    if same(name, b"round_number_as_if_positive") {
+        return Call::RoundNumberAsIfPositive;
+    }
+    if same(name, b"round_time") {
+        return Call::RoundTime;
+    }
     Call::Unknown
 }
 
@@ -78,6 +109,12 @@ pub fn reply_to(line: &[u8]) -> Written
         Call::MakeDate => dates::make_date(line),
         Call::DateLimits => dates::date_limits(line),
         Call::BalanceDate => dates::balance_date(line),
+        Call::RegulateTime => times::regulate_time(line),
+        Call::BalanceTime => times::balance_time(line),
+        Call::TimeDifference => times::time_difference(line),
+        Call::RoundNumber => times::round_number(line),
+        Call::RoundNumberAsIfPositive => times::round_number_as_if_positive(line),
+        Call::RoundTime => times::round_time(line),
         Call::Unknown => written::no_request(),
     }
 }

@@ -1,16 +1,20 @@
 // Fields read as numbers of the parameters' types, alone and in groups.
 use iso_date::IsoDate;
-use iso_date::Overflow;
+use iso_time::IsoTime;
 use lines::Natural;
 use lines::Signed;
+use lines::signed_at;
+use options::Overflow;
+use options::Unit;
+use rounding::RoundingMode;
 ghost use mathlib.Core.Path.{_≡_};
 ghost use mathlib.Core.List.{[]};
-ghost use Prim.Native.Nat.{_<_};
 ghost use lib.ListN.{getD};
 ghost use Rattle.lines.specs.Text.{fields};
+ghost use Rattle.lines.specs.Meaning.{ofSigned};
 ghost use Rattle.requests.specs.Protocol.{signed, unsigned};
-ghost use Rattle.requests.specs.Calls.{dateKinds, overflowKind};
-ghost use Rattle.requests.specs.Meaning.{ofInt, ofByte, ofOverflowField, ofDateFields, readAs, collect};
+ghost use Rattle.requests.specs.Calls.{dateKinds, overflowKind, timeKinds, partsKinds, unitKind, modeKind};
+ghost use Rattle.requests.specs.Meaning.{ofInt, ofByte, ofShort, ofOverflowField, ofUnitField, ofModeField, ofDateFields, ofTimeFields, ofPartsFields, readAs, collect};
 
 // A number of 32 bits with a sign, or no such number.
 pub enum Int {
@@ -36,13 +40,84 @@ pub enum DateFields {
     Not,
 }
 
+// A number of 16 bits, or no such number.
+pub enum Short {
+    Is(u16),
+    Not,
+}
+
+// A unit, or no such number.
+pub enum UnitField {
+    Is(Unit),
+    Not,
+}
+
+// A rounding mode, or no such number.
+pub enum ModeField {
+    Is(RoundingMode),
+    Not,
+}
+
+// Six fields as a time, or no such numbers.
+pub enum TimeFields {
+    Are(IsoTime),
+    Not,
+}
+
+// Six fields of 64 bits that are to be balanced.
+pub struct Parts {
+    pub hour: i64,
+    pub minute: i64,
+    pub second: i64,
+    pub millisecond: i64,
+    pub microsecond: i64,
+    pub nanosecond: i64,
+}
+
+pub enum PartsFields {
+    Are(Parts),
+    Not,
+}
+
+// The units and the modes by their numbers.
+const UNITS: [Unit; 10] = [
+    Unit::Year,
+    Unit::Month,
+    Unit::Week,
+    Unit::Day,
+    Unit::Hour,
+    Unit::Minute,
+    Unit::Second,
+    Unit::Millisecond,
+    Unit::Microsecond,
+    Unit::Nanosecond,
+];
+
+const MODES: [RoundingMode; 9] = [
+    RoundingMode::Ceil,
+    RoundingMode::Floor,
+    RoundingMode::Expand,
+    RoundingMode::Trunc,
+    RoundingMode::HalfCeil,
+    RoundingMode::HalfFloor,
+    RoundingMode::HalfExpand,
+    RoundingMode::HalfTrunc,
+    RoundingMode::HalfEven,
+];
+
 pub fn int_at(line: &[u8], i: usize) -> Int
     ensures { λ r. ⌜ ofInt r ≡ readAs (signed 32) (fields (now (line .entry))) i ⌝ }
 {
-    let Signed::Is(z) = lines::signed_at(line, i, -2_147_483_648, 2_147_483_647) else {
+    let Signed::Is(z) = signed_at(line, i, -2_147_483_648, 2_147_483_647) else {
         return Int::Not;
     };
     Int::Is(z as i32)
+}
+
+pub fn long_at(line: &[u8], i: usize) -> Signed
+    ensures { λ r. ⌜ ofSigned r ≡ readAs (signed 64) (fields (now (line .entry))) i ⌝ }
+{
+    signed_at(line, i, i64::MIN, i64::MAX)
 }
 
 pub fn byte_at(line: &[u8], i: usize) -> Byte
@@ -67,18 +142,110 @@ pub fn overflow_at(line: &[u8], i: usize) -> OverflowField
 }
 
 // The date whose fields start at field i.
-pub fn date_at(line: &[u8], i: usize) -> DateFields
-    requires { ⌜ i < 32 ⌝ }
+pub fn date_at(line: &[u8], i: u8) -> DateFields
     ensures { λ r. ⌜ ofDateFields r ≡ collect dateKinds (fields (now (line .entry))) i ⌝ }
 {
-    let Int::Is(year) = int_at(line, i) else {
+    let Int::Is(year) = int_at(line, i as usize) else {
         return DateFields::Not;
     };
-    let Byte::Is(month) = byte_at(line, i + 1) else {
+    let Byte::Is(month) = byte_at(line, i as usize + 1) else {
         return DateFields::Not;
     };
-    let Byte::Is(day) = byte_at(line, i + 2) else {
+    let Byte::Is(day) = byte_at(line, i as usize + 2) else {
         return DateFields::Not;
     };
     DateFields::Are(IsoDate { year, month, day })
+}
+
+pub fn short_at(line: &[u8], i: usize) -> Short
+    ensures { λ r. ⌜ ofShort r ≡ readAs (unsigned 16) (fields (now (line .entry))) i ⌝ }
+{
+    let Natural::Is(n) = lines::natural_at(line, i, 65_535) else {
+        return Short::Not;
+    };
+    Short::Is(n as u16)
+}
+
+pub fn unit_at(line: &[u8], i: usize) -> UnitField
+    ensures { λ r. ⌜ ofUnitField r ≡ readAs unitKind (fields (now (line .entry))) i ⌝ }
+{
+    let Natural::Is(n) = lines::natural_at(line, i, 9) else {
+        return UnitField::Not;
+    };
+    let place = n as usize;
+    UnitField::Is(UNITS[place])
+}
+
+pub fn mode_at(line: &[u8], i: usize) -> ModeField
+    ensures { λ r. ⌜ ofModeField r ≡ readAs modeKind (fields (now (line .entry))) i ⌝ }
+{
+    let Natural::Is(n) = lines::natural_at(line, i, 8) else {
+        return ModeField::Not;
+    };
+    let place = n as usize;
+    ModeField::Is(MODES[place])
+}
+
+// The time whose fields start at field i.
+pub fn time_at(line: &[u8], i: u8) -> TimeFields
+    ensures { λ r. ⌜ ofTimeFields r ≡ collect timeKinds (fields (now (line .entry))) i ⌝ }
+{
+    let Byte::Is(hour) = byte_at(line, i as usize) else {
+        return TimeFields::Not;
+    };
+    let Byte::Is(minute) = byte_at(line, i as usize + 1) else {
+        return TimeFields::Not;
+    };
+    let Byte::Is(second) = byte_at(line, i as usize + 2) else {
+        return TimeFields::Not;
+    };
+    let Short::Is(millisecond) = short_at(line, i as usize + 3) else {
+        return TimeFields::Not;
+    };
+    let Short::Is(microsecond) = short_at(line, i as usize + 4) else {
+        return TimeFields::Not;
+    };
+    let Short::Is(nanosecond) = short_at(line, i as usize + 5) else {
+        return TimeFields::Not;
+    };
+    TimeFields::Are(IsoTime {
+        hour,
+        minute,
+        second,
+        millisecond,
+        microsecond,
+        nanosecond,
+    })
+}
+
+// The six fields of 64 bits that start at field i.
+pub fn parts_at(line: &[u8], i: u8) -> PartsFields
+    ensures { λ r. ⌜ ofPartsFields r ≡ collect partsKinds (fields (now (line .entry))) i ⌝ }
+{
+    let Signed::Is(hour) = long_at(line, i as usize) else {
+        return PartsFields::Not;
+    };
+    let Signed::Is(minute) = long_at(line, i as usize + 1) else {
+        return PartsFields::Not;
+    };
+    let Signed::Is(second) = long_at(line, i as usize + 2) else {
+        return PartsFields::Not;
+    };
+    let Signed::Is(millisecond) = long_at(line, i as usize + 3) else {
+        return PartsFields::Not;
+    };
+    let Signed::Is(microsecond) = long_at(line, i as usize + 4) else {
+        return PartsFields::Not;
+    };
+    let Signed::Is(nanosecond) = long_at(line, i as usize + 5) else {
+        return PartsFields::Not;
+    };
+    PartsFields::Are(Parts {
+        hour,
+        minute,
+        second,
+        millisecond,
+        microsecond,
+        nanosecond,
+    })
 }

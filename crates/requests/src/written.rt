@@ -4,11 +4,19 @@ use iso_date::DayResult;
 use iso_date::LimitResult;
 use iso_date::MonthLength;
 use iso_date::YearMonth;
+use iso_time::BalanceResult;
+use iso_time::BalancedTime;
+use iso_time::IsoTime;
+use iso_time::SpanResult;
+use iso_time::TimeResult;
+use rounding::Rounded;
 ghost use mathlib.Core.List.{[], _∷_};
 ghost use lib.IntN.{pos};
 ghost use Rattle.iso_date.specs.Paper.{ofMonthLength, ofDay, ofDate, ofLimit};
+ghost use Rattle.iso_time.specs.Paper.{ofTime, ofBalance, ofSpan};
+ghost use Rattle.rounding.specs.Paper.{ofRounded};
 ghost use Rattle.requests.specs.Protocol.{question, answer, said};
-ghost use Rattle.requests.specs.Calls.{values, dateValues, yearMonthValues};
+ghost use Rattle.requests.specs.Calls.{values, dateValues, yearMonthValues, timeValues, balancedValues, spanValues};
 ghost use Rattle.requests.specs.Meaning.{Says};
 
 // A reply: an answer's number and the first `count` of the values, or no request at all.
@@ -110,5 +118,101 @@ pub fn year_month_reply(r: YearMonth) -> Written
         number: 0,
         count: 2,
         values: [r.year as i64, r.month as i64, 0, 0, 0, 0, 0, 0, 0, 0, 0, 0],
+    }
+}
+
+fn two_values(a: i64, b: i64) -> Written
+    ensures { λ r. ⌜ Says r (answer 0 (a ∷ b ∷ [])) ⌝ }
+{
+    Written {
+        known: true,
+        number: 0,
+        count: 2,
+        values: [a, b, 0, 0, 0, 0, 0, 0, 0, 0, 0, 0],
+    }
+}
+
+fn time_values(t: IsoTime) -> Written
+    ensures { λ r. ⌜ Says r (answer 0 (timeValues t)) ⌝ }
+{
+    Written {
+        known: true,
+        number: 0,
+        count: 6,
+        values: [
+            t.hour as i64,
+            t.minute as i64,
+            t.second as i64,
+            t.millisecond as i64,
+            t.microsecond as i64,
+            t.nanosecond as i64,
+            0,
+            0,
+            0,
+            0,
+            0,
+            0,
+        ],
+    }
+}
+
+fn balanced_values(b: BalancedTime) -> Written
+    ensures { λ r. ⌜ Says r (answer 0 (balancedValues b)) ⌝ }
+{
+    let t = b.time;
+    Written {
+        known: true,
+        number: 0,
+        count: 7,
+        values: [
+            b.days,
+            t.hour as i64,
+            t.minute as i64,
+            t.second as i64,
+            t.millisecond as i64,
+            t.microsecond as i64,
+            t.nanosecond as i64,
+            0,
+            0,
+            0,
+            0,
+            0,
+        ],
+    }
+}
+
+pub fn time_reply(r: TimeResult) -> Written
+    ensures { λ w. ⌜ Says w (said (values timeValues (ofTime r))) ⌝ }
+{
+    match r {
+        TimeResult::Time(t) => time_values(t),
+        TimeResult::Refused(n) => number_alone(n),
+    }
+}
+
+pub fn balance_reply(r: BalanceResult) -> Written
+    ensures { λ w. ⌜ Says w (said (values balancedValues (ofBalance r))) ⌝ }
+{
+    match r {
+        BalanceResult::Balanced(b) => balanced_values(b),
+        BalanceResult::Refused(n) => number_alone(n),
+    }
+}
+
+pub fn span_reply(r: SpanResult) -> Written
+    ensures { λ w. ⌜ Says w (said (values spanValues (ofSpan r))) ⌝ }
+{
+    match r {
+        SpanResult::Span(d) => two_values(d.seconds, d.nanoseconds),
+        SpanResult::Refused(n) => number_alone(n),
+    }
+}
+
+pub fn rounded_reply(r: Rounded) -> Written
+    ensures { λ w. ⌜ Says w (said (values (λ n. n ∷ []) (ofRounded r))) ⌝ }
+{
+    match r {
+        Rounded::Number(n) => one_value(n),
+        Rounded::Refused(n) => number_alone(n),
     }
 }

@@ -182,9 +182,9 @@ module _ (m step : ℕ) (rule : UnsignedRoundingMode) (p : 0 < step) where
       go false e = rw e (omega (arith, lower-le m step p, left-lt m step p), omega (arith, lower-le m step p, left-lt m step p))
       go true e =
           let some : m / step * step < m =
-              ⊎-elim (λ h. h)
-              (λ h. absurd (true-false (sym e ∙ takes-none rule (eqb (m / step % 2) 1) (m - m / step * step) (step - (m - m / step * step)) (omega (arith, h)))))
-              (split (m / step * step) m) in
+          ⊎-elim (λ h. h)
+          (λ h. absurd (true-false (sym e ∙ takes-none rule (eqb (m / step % 2) 1) (m - m / step * step) (step - (m - m / step * step)) (omega (arith, h)))))
+          (split (m / step * step) m) in
           rw e (omega arith, omega (arith, lower-le m step p, left-lt m step p))
 
   pub positive-round : roundQuotient (pos m) step rule *ℤ pos step ≡ pos (roundedSize m step rule)

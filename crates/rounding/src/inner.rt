@@ -1,7 +1,6 @@
 // The rounder on sizes: a quotient and what it leaves, the choice between the two multiples, and the size that comes out.
 use crate::RoundingMode;
 use crate::UnsignedRoundingMode;
-
 ghost use mathlib.Core.Path.{_≡_};
 ghost use mathlib.Core.Bool.{cond};
 ghost use Prim.Native.Nat.{_+_, _≤_, _<_, _^_};
@@ -13,13 +12,31 @@ ghost use Rattle.rounding.specs.Inner.{modeRow, signColumn, takesUp, siz
 const RULES: [[UnsignedRoundingMode; 2]; 9] = [
     [UnsignedRoundingMode::Infinity, UnsignedRoundingMode::Zero],
     [UnsignedRoundingMode::Zero, UnsignedRoundingMode::Infinity],
-    [UnsignedRoundingMode::Infinity, UnsignedRoundingMode::Infinity],
+    [
+        UnsignedRoundingMode::Infinity,
+        UnsignedRoundingMode::Infinity,
+    ],
     [UnsignedRoundingMode::Zero, UnsignedRoundingMode::Zero],
-    [UnsignedRoundingMode::HalfInfinity, UnsignedRoundingMode::HalfZero],
-    [UnsignedRoundingMode::HalfZero, UnsignedRoundingMode::HalfInfinity],
-    [UnsignedRoundingMode::HalfInfinity, UnsignedRoundingMode::HalfInfinity],
-    [UnsignedRoundingMode::HalfZero, UnsignedRoundingMode::HalfZero],
-    [UnsignedRoundingMode::HalfEven, UnsignedRoundingMode::HalfEven],
+    [
+        UnsignedRoundingMode::HalfInfinity,
+        UnsignedRoundingMode::HalfZero,
+    ],
+    [
+        UnsignedRoundingMode::HalfZero,
+        UnsignedRoundingMode::HalfInfinity,
+    ],
+    [
+        UnsignedRoundingMode::HalfInfinity,
+        UnsignedRoundingMode::HalfInfinity,
+    ],
+    [
+        UnsignedRoundingMode::HalfZero,
+        UnsignedRoundingMode::HalfZero,
+    ],
+    [
+        UnsignedRoundingMode::HalfEven,
+        UnsignedRoundingMode::HalfEven,
+    ],
 ];
 
 // A size, or one past what the answer can hold.

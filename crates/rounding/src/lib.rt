@@ -39,6 +39,7 @@ pub enum Rounded {
 
 // The largest size of an answer above and below zero.
 const MOST_ABOVE: u64 = 0x7fff_ffff_ffff_ffff;
+
 const MOST_BELOW: u64 = 0x8000_0000_0000_0000;
 
 // A number rounded to a multiple of the step: by its size, with the rule of its sign. A step of 0 is 6, an exact result that 64 bits

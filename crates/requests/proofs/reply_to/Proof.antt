@@ -1,7 +1,7 @@
 -- The first field names the call; its reply is that of the call.
 use borrow.Author.Needs.{needs}
 use mathlib.Core.Path.{_≡_, refl, sym, _∙_, ap}
-use Rattle.requests.specs.declared.Call.the-variants.{MonthLength, DateToDay, DayToDate, BalanceYearMonth, RegulateDate, MakeDate, DateLimits, BalanceDate, Unknown}
+use Rattle.requests.specs.declared.Call.the-variants.{MonthLength, DateToDay, DayToDate, BalanceYearMonth, RegulateDate, MakeDate, DateLimits, BalanceDate, RegulateTime, BalanceTime, TimeDifference, RoundNumber, RoundNumberAsIfPositive, RoundTime, Unknown}
 use Rattle.requests.proofs.Laws.{says-as, reply-as, unknown-reply}
 use Rattle.requests.proofs.reply_to.Statement.{statement}
 use Rattle.requests.proofs.reply_to.Tie as tie
@@ -63,6 +63,42 @@ balance-date-requires c κs = search needs
 enum-told-9 : tie.Need-enum-told-9
 enum-told-9 c = search needs
 
+regulate-time-requires : tie.Need-regulate-time-requires
+regulate-time-requires c κs = search needs
+
+enum-told-10 : tie.Need-enum-told-10
+enum-told-10 c = search needs
+
+balance-time-requires : tie.Need-balance-time-requires
+balance-time-requires c κs = search needs
+
+enum-told-11 : tie.Need-enum-told-11
+enum-told-11 c = search needs
+
+time-difference-requires : tie.Need-time-difference-requires
+time-difference-requires c κs = search needs
+
+enum-told-12 : tie.Need-enum-told-12
+enum-told-12 c = search needs
+
+round-number-requires : tie.Need-round-number-requires
+round-number-requires c κs = search needs
+
+enum-told-13 : tie.Need-enum-told-13
+enum-told-13 c = search needs
+
+round-number-as-if-positive-requires : tie.Need-round-number-as-if-positive-requires
+round-number-as-if-positive-requires c κs = search needs
+
+enum-told-14 : tie.Need-enum-told-14
+enum-told-14 c = search needs
+
+round-time-requires : tie.Need-round-time-requires
+round-time-requires c κs = search needs
+
+enum-told-15 : tie.Need-enum-told-15
+enum-told-15 c = search needs
+
 no-request-requires : tie.Need-no-request-requires
 no-request-requires c κs = search needs
 
@@ -109,8 +145,38 @@ returns-8 c =
 returns-9 : tie.Need-returns-9
 returns-9 c =
     let t = c .before .before .before in
+    says-as (c .regulate-time .ensures) (reply-as RegulateTime _ _ _ (t .call-named .ensures) (t .before .field .ensures) (c .before .enum-told9 .given .1))
+
+returns-10 : tie.Need-returns-10
+returns-10 c =
+    let t = c .before .before .before in
+    says-as (c .balance-time .ensures) (reply-as BalanceTime _ _ _ (t .call-named .ensures) (t .before .field .ensures) (c .before .enum-told10 .given .1))
+
+returns-11 : tie.Need-returns-11
+returns-11 c =
+    let t = c .before .before .before in
+    says-as (c .time-difference .ensures) (reply-as TimeDifference _ _ _ (t .call-named .ensures) (t .before .field .ensures) (c .before .enum-told11 .given .1))
+
+returns-12 : tie.Need-returns-12
+returns-12 c =
+    let t = c .before .before .before in
+    says-as (c .round-number .ensures) (reply-as RoundNumber _ _ _ (t .call-named .ensures) (t .before .field .ensures) (c .before .enum-told12 .given .1))
+
+returns-13 : tie.Need-returns-13
+returns-13 c =
+    let t = c .before .before .before in
+    says-as (c .round-number-as-if-positive .ensures) (reply-as RoundNumberAsIfPositive _ _ _ (t .call-named .ensures) (t .before .field .ensures) (c .before .enum-told13 .given .1))
+
+returns-14 : tie.Need-returns-14
+returns-14 c =
+    let t = c .before .before .before in
+    says-as (c .round-time .ensures) (reply-as RoundTime _ _ _ (t .call-named .ensures) (t .before .field .ensures) (c .before .enum-told14 .given .1))
+
+returns-15 : tie.Need-returns-15
+returns-15 c =
+    let t = c .before .before .before in
     says-as (c .no-request .ensures)
-    (unknown-reply _ ∙ reply-as Unknown _ _ _ (t .call-named .ensures) (t .before .field .ensures) (c .before .enum-told9 .given .1))
+    (unknown-reply _ ∙ reply-as Unknown _ _ _ (t .call-named .ensures) (t .before .field .ensures) (c .before .enum-told15 .given .1))
 
 pub reply-to-spec : {M : Type 1} → statement M
 reply-to-spec =
@@ -135,6 +201,18 @@ reply-to-spec =
     enum-told-8
     balance-date-requires
     enum-told-9
+    regulate-time-requires
+    enum-told-10
+    balance-time-requires
+    enum-told-11
+    time-difference-requires
+    enum-told-12
+    round-number-requires
+    enum-told-13
+    round-number-as-if-positive-requires
+    enum-told-14
+    round-time-requires
+    enum-told-15
     no-request-requires
     returns
     returns-2
@@ -144,4 +222,10 @@ reply-to-spec =
     returns-6
     returns-7
     returns-8
-    returns-9)
+    returns-9
+    returns-10
+    returns-11
+    returns-12
+    returns-13
+    returns-14
+    returns-15)

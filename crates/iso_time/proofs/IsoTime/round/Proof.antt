@@ -40,9 +40,10 @@ returns-3 c =
 
 round-requires : tie.Need-round-requires
 round-requires c κs =
-    let k = c .before .before in
-    (sym (k .before .before .before .is-valid .ensures) ∙ not-false _ (k .before .before .if1 .left),
-    (omega (arith, k .before .length-of .ensures .0, k .if2 .left), sym (c .before .is-increment .ensures) ∙ not-false _ (c .if3 .left)))
+    let k = c .before .before in (
+      sym (k .before .before .before .is-valid .ensures) ∙ not-false _ (k .before .before .if1 .left),
+      (omega (arith, k .before .length-of .ensures .0, k .if2 .left), sym (c .before .is-increment .ensures) ∙ not-false _ (c .if3 .left)),
+    )
 
 returns-4 : tie.Need-returns-4
 unfolding roundedTime

@@ -18,7 +18,7 @@ use Rattle.requests.specs.Meaning.{readAs, ofInt, ofByte, ofOverflowFiel
 use Rattle.requests.proofs.Laws.{says-as, no-reply, bad-reply, good-reply, collect-fails, collect-fails-later, collect-more, collect-end, group-fails, group-then-fails, group-then, overflow-back}
 use Rattle.iso_date.specs.Paper.{ofDate, regulateDate, makeDate}
 use Rattle.iso_date.specs.declared.IsoDate.{IsoDate}
-use Rattle.iso_date.specs.declared.Overflow.{Overflow}
+use Rattle.options.specs.declared.Overflow.{Overflow}
 use Rattle.requests.specs.declared.Call.the-variants.{MakeDate}
 use Rattle.requests.proofs.dates.make_date.Statement.{statement}
 use Rattle.requests.proofs.dates.make_date.Tie as tie

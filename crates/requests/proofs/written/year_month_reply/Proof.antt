@@ -30,7 +30,7 @@ returns c =
     let m : r .month < 2 ^ 63 = omega arith in
     record {
       reply-is = two-same _ _ _ _ (toZ-ofZ (cast-t2 (c .before)) ∙ back) (toZ-pos w64 m);
-      count-fits = omega arith
+      count-fits = omega arith;
     }
 
 pub year-month-reply-spec : {M : Type 1} → statement M

@@ -2,34 +2,34 @@
 use borrow.Author.Needs.{needs}
 use mathlib.Core.Path.{_≡_, refl, sym, _∙_, ap}
 use lib.ListN.{drop}
-use Rattle.requests.specs.Calls.{callIn, dateCalls}
+use Rattle.requests.specs.Calls.{callIn, everyCall}
 use Rattle.requests.specs.declared.Call.the-variants.{MonthLength, DateToDay, DayToDate, BalanceYearMonth, RegulateDate, MakeDate, DateLimits, BalanceDate}
 use Rattle.requests.proofs.Laws.{this-call, next-call}
-use Rattle.requests.proofs.date_call.Statement.{statement}
-use Rattle.requests.proofs.date_call.Tie as tie
+use Rattle.requests.proofs.call_named.Statement.{statement}
+use Rattle.requests.proofs.call_named.Tie as tie
 
-past1 : (c : tie.Else1) → callIn dateCalls (c .before .before .before .before .args .name .now) ≡ callIn (drop 1 dateCalls) (c .before .before .before .before .args .name .now)
+past1 : (c : tie.Else1) → callIn everyCall (c .before .before .before .before .args .name .now) ≡ callIn (drop 1 everyCall) (c .before .before .before .before .args .name .now)
 past1 c = next-call MonthLength _ _ _ (c .before .same .ensures) (c .if1 .left)
 
-past2 : (c : tie.Else2) → callIn dateCalls (c .before .before .before .before .before .before .before .args .name .now) ≡ callIn (drop 2 dateCalls) (c .before .before .before .before .before .before .before .args .name .now)
+past2 : (c : tie.Else2) → callIn everyCall (c .before .before .before .before .before .before .before .args .name .now) ≡ callIn (drop 2 everyCall) (c .before .before .before .before .before .before .before .args .name .now)
 past2 c = past1 (c .before .before .before) ∙ next-call DateToDay _ _ _ (c .before .same2 .ensures) (c .if2 .left)
 
-past3 : (c : tie.Else3) → callIn dateCalls (c .before .before .before .before .before .before .before .before .before .before .args .name .now) ≡ callIn (drop 3 dateCalls) (c .before .before .before .before .before .before .before .before .before .before .args .name .now)
+past3 : (c : tie.Else3) → callIn everyCall (c .before .before .before .before .before .before .before .before .before .before .args .name .now) ≡ callIn (drop 3 everyCall) (c .before .before .before .before .before .before .before .before .before .before .args .name .now)
 past3 c = past2 (c .before .before .before) ∙ next-call DayToDate _ _ _ (c .before .same3 .ensures) (c .if3 .left)
 
-past4 : (c : tie.Else4) → callIn dateCalls (c .before .before .before .before .before .before .before .before .before .before .before .before .before .args .name .now) ≡ callIn (drop 4 dateCalls) (c .before .before .before .before .before .before .before .before .before .before .before .before .before .args .name .now)
+past4 : (c : tie.Else4) → callIn everyCall (c .before .before .before .before .before .before .before .before .before .before .before .before .before .args .name .now) ≡ callIn (drop 4 everyCall) (c .before .before .before .before .before .before .before .before .before .before .before .before .before .args .name .now)
 past4 c = past3 (c .before .before .before) ∙ next-call BalanceYearMonth _ _ _ (c .before .same4 .ensures) (c .if4 .left)
 
-past5 : (c : tie.Else5) → callIn dateCalls (c .before .before .before .before .before .before .before .before .before .before .before .before .before .before .before .before .args .name .now) ≡ callIn (drop 5 dateCalls) (c .before .before .before .before .before .before .before .before .before .before .before .before .before .before .before .before .args .name .now)
+past5 : (c : tie.Else5) → callIn everyCall (c .before .before .before .before .before .before .before .before .before .before .before .before .before .before .before .before .args .name .now) ≡ callIn (drop 5 everyCall) (c .before .before .before .before .before .before .before .before .before .before .before .before .before .before .before .before .args .name .now)
 past5 c = past4 (c .before .before .before) ∙ next-call RegulateDate _ _ _ (c .before .same5 .ensures) (c .if5 .left)
 
-past6 : (c : tie.Else6) → callIn dateCalls (c .before .before .before .before .before .before .before .before .before .before .before .before .before .before .before .before .before .before .before .args .name .now) ≡ callIn (drop 6 dateCalls) (c .before .before .before .before .before .before .before .before .before .before .before .before .before .before .before .before .before .before .before .args .name .now)
+past6 : (c : tie.Else6) → callIn everyCall (c .before .before .before .before .before .before .before .before .before .before .before .before .before .before .before .before .before .before .before .args .name .now) ≡ callIn (drop 6 everyCall) (c .before .before .before .before .before .before .before .before .before .before .before .before .before .before .before .before .before .before .before .args .name .now)
 past6 c = past5 (c .before .before .before) ∙ next-call MakeDate _ _ _ (c .before .same6 .ensures) (c .if6 .left)
 
-past7 : (c : tie.Else7) → callIn dateCalls (c .before .before .before .before .before .before .before .before .before .before .before .before .before .before .before .before .before .before .before .before .before .before .args .name .now) ≡ callIn (drop 7 dateCalls) (c .before .before .before .before .before .before .before .before .before .before .before .before .before .before .before .before .before .before .before .before .before .before .args .name .now)
+past7 : (c : tie.Else7) → callIn everyCall (c .before .before .before .before .before .before .before .before .before .before .before .before .before .before .before .before .before .before .before .before .before .before .args .name .now) ≡ callIn (drop 7 everyCall) (c .before .before .before .before .before .before .before .before .before .before .before .before .before .before .before .before .before .before .before .before .before .before .args .name .now)
 past7 c = past6 (c .before .before .before) ∙ next-call DateLimits _ _ _ (c .before .same7 .ensures) (c .if7 .left)
 
-past8 : (c : tie.Else8) → callIn dateCalls (c .before .before .before .before .before .before .before .before .before .before .before .before .before .before .before .before .before .before .before .before .before .before .before .before .before .args .name .now) ≡ callIn (drop 8 dateCalls) (c .before .before .before .before .before .before .before .before .before .before .before .before .before .before .before .before .before .before .before .before .before .before .before .before .before .args .name .now)
+past8 : (c : tie.Else8) → callIn everyCall (c .before .before .before .before .before .before .before .before .before .before .before .before .before .before .before .before .before .before .before .before .before .before .before .before .before .args .name .now) ≡ callIn (drop 8 everyCall) (c .before .before .before .before .before .before .before .before .before .before .before .before .before .before .before .before .before .before .before .before .before .before .before .before .before .args .name .now)
 past8 c = past7 (c .before .before .before) ∙ next-call BalanceDate _ _ _ (c .before .same8 .ensures) (c .if8 .left)
 
 slice-aggregate-same : tie.Need-slice-aggregate-same
@@ -104,12 +104,14 @@ same-requires-8 c κs = search needs
 returns-8 : tie.Need-returns-8
 returns-8 c = sym (past7 (c .before .before .before) ∙ this-call BalanceDate _ _ _ (c .before .same8 .ensures) (c .if8 .taken))
 
-returns-9 : tie.Need-returns-9
-unfolding callIn
-returns-9 c = sym (past8 c)
+time-call-requires : tie.Need-time-call-requires
+time-call-requires c κs = search needs
 
-pub date-call-spec : {M : Type 1} → statement M
-date-call-spec =
+returns-9 : tie.Need-returns-9
+returns-9 c = c .time-call .ensures ∙ sym (past8 (c .before))
+
+pub call-named-spec : {M : Type 1} → statement M
+call-named-spec =
     tie.close
     (tie.spec
     slice-aggregate-same
@@ -136,4 +138,5 @@ date-call-spec =
     slice-aggregate-same-8
     same-requires-8
     returns-8
+    time-call-requires
     returns-9)

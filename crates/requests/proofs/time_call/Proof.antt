@@ -1,0 +1,109 @@
+-- Each name in turn: the first that is the same is the call.
+use borrow.Author.Needs.{needs}
+use mathlib.Core.Path.{_≡_, refl, sym, _∙_, ap}
+use lib.ListN.{drop}
+use Rattle.requests.specs.Calls.{callIn, timeCalls}
+use Rattle.requests.specs.declared.Call.the-variants.{RegulateTime, BalanceTime, TimeDifference, RoundNumber, RoundNumberAsIfPositive, RoundTime}
+use Rattle.requests.proofs.Laws.{this-call, next-call}
+use Rattle.requests.proofs.time_call.Statement.{statement}
+use Rattle.requests.proofs.time_call.Tie as tie
+
+past1 : (c : tie.Else1) → callIn timeCalls (c .before .before .before .before .args .name .now) ≡ callIn (drop 1 timeCalls) (c .before .before .before .before .args .name .now)
+past1 c = next-call RegulateTime _ _ _ (c .before .same .ensures) (c .if1 .left)
+
+past2 : (c : tie.Else2) → callIn timeCalls (c .before .before .before .before .before .before .before .args .name .now) ≡ callIn (drop 2 timeCalls) (c .before .before .before .before .before .before .before .args .name .now)
+past2 c = past1 (c .before .before .before) ∙ next-call BalanceTime _ _ _ (c .before .same2 .ensures) (c .if2 .left)
+
+past3 : (c : tie.Else3) → callIn timeCalls (c .before .before .before .before .before .before .before .before .before .before .args .name .now) ≡ callIn (drop 3 timeCalls) (c .before .before .before .before .before .before .before .before .before .before .args .name .now)
+past3 c = past2 (c .before .before .before) ∙ next-call TimeDifference _ _ _ (c .before .same3 .ensures) (c .if3 .left)
+
+past4 : (c : tie.Else4) → callIn timeCalls (c .before .before .before .before .before .before .before .before .before .before .before .before .before .args .name .now) ≡ callIn (drop 4 timeCalls) (c .before .before .before .before .before .before .before .before .before .before .before .before .before .args .name .now)
+past4 c = past3 (c .before .before .before) ∙ next-call RoundNumber _ _ _ (c .before .same4 .ensures) (c .if4 .left)
+
+past5 : (c : tie.Else5) → callIn timeCalls (c .before .before .before .before .before .before .before .before .before .before .before .before .before .before .before .before .args .name .now) ≡ callIn (drop 5 timeCalls) (c .before .before .before .before .before .before .before .before .before .before .before .before .before .before .before .before .args .name .now)
+past5 c = past4 (c .before .before .before) ∙ next-call RoundNumberAsIfPositive _ _ _ (c .before .same5 .ensures) (c .if5 .left)
+
+past6 : (c : tie.Else6) → callIn timeCalls (c .before .before .before .before .before .before .before .before .before .before .before .before .before .before .before .before .before .before .before .args .name .now) ≡ callIn (drop 6 timeCalls) (c .before .before .before .before .before .before .before .before .before .before .before .before .before .before .before .before .before .before .before .args .name .now)
+past6 c = past5 (c .before .before .before) ∙ next-call RoundTime _ _ _ (c .before .same6 .ensures) (c .if6 .left)
+
+slice-aggregate-same : tie.Need-slice-aggregate-same
+slice-aggregate-same c = search needs
+
+same-requires : tie.Need-same-requires
+same-requires c κs = search needs
+
+returns : tie.Need-returns
+returns c = sym (this-call RegulateTime _ _ _ (c .before .same .ensures) (c .if1 .taken))
+
+slice-aggregate-same-2 : tie.Need-slice-aggregate-same-2
+slice-aggregate-same-2 c = search needs
+
+same-requires-2 : tie.Need-same-requires-2
+same-requires-2 c κs = search needs
+
+returns-2 : tie.Need-returns-2
+returns-2 c = sym (past1 (c .before .before .before) ∙ this-call BalanceTime _ _ _ (c .before .same2 .ensures) (c .if2 .taken))
+
+slice-aggregate-same-3 : tie.Need-slice-aggregate-same-3
+slice-aggregate-same-3 c = search needs
+
+same-requires-3 : tie.Need-same-requires-3
+same-requires-3 c κs = search needs
+
+returns-3 : tie.Need-returns-3
+returns-3 c = sym (past2 (c .before .before .before) ∙ this-call TimeDifference _ _ _ (c .before .same3 .ensures) (c .if3 .taken))
+
+slice-aggregate-same-4 : tie.Need-slice-aggregate-same-4
+slice-aggregate-same-4 c = search needs
+
+same-requires-4 : tie.Need-same-requires-4
+same-requires-4 c κs = search needs
+
+returns-4 : tie.Need-returns-4
+returns-4 c = sym (past3 (c .before .before .before) ∙ this-call RoundNumber _ _ _ (c .before .same4 .ensures) (c .if4 .taken))
+
+slice-aggregate-same-5 : tie.Need-slice-aggregate-same-5
+slice-aggregate-same-5 c = search needs
+
+same-requires-5 : tie.Need-same-requires-5
+same-requires-5 c κs = search needs
+
+returns-5 : tie.Need-returns-5
+returns-5 c = sym (past4 (c .before .before .before) ∙ this-call RoundNumberAsIfPositive _ _ _ (c .before .same5 .ensures) (c .if5 .taken))
+
+slice-aggregate-same-6 : tie.Need-slice-aggregate-same-6
+slice-aggregate-same-6 c = search needs
+
+same-requires-6 : tie.Need-same-requires-6
+same-requires-6 c κs = search needs
+
+returns-6 : tie.Need-returns-6
+returns-6 c = sym (past5 (c .before .before .before) ∙ this-call RoundTime _ _ _ (c .before .same6 .ensures) (c .if6 .taken))
+
+returns-7 : tie.Need-returns-7
+unfolding callIn
+returns-7 c = sym (past6 c)
+
+pub time-call-spec : {M : Type 1} → statement M
+time-call-spec =
+    tie.close
+    (tie.spec
+    slice-aggregate-same
+    same-requires
+    returns
+    slice-aggregate-same-2
+    same-requires-2
+    returns-2
+    slice-aggregate-same-3
+    same-requires-3
+    returns-3
+    slice-aggregate-same-4
+    same-requires-4
+    returns-4
+    slice-aggregate-same-5
+    same-requires-5
+    returns-5
+    slice-aggregate-same-6
+    same-requires-6
+    returns-6
+    returns-7)
