@@ -1,23 +1,23 @@
 -- How the answers of the rules come out of their checks, one law for each way through the code. Assumes nothing.
-use Prim.Native.Nat.{ℕ, zero, suc, _+_, _-_, _*_, _/_, _%_, _^_, _≤_, _<_, min, max}
+use Prim.Native.Nat.{ℕ, _+_, _-_, _/_, _%_, _^_, _≤_, _<_}
 use native.Mathlib.Omega.{arith}
 use mathlib.Core.Path.{_≡_, refl, sym, _∙_, ap}
-use mathlib.Core.Bool.{Bool, true, false, cond, _&&_}
+use mathlib.Core.Bool.{Bool, true, false, _&&_}
 use borrow.Author.Tests.{le-leb, lt-leb}
 use lib.Dec.{leb}
 use lib.ListN.{getD}
 use lib.IntN.{ℤ, pos, negℤ, _+ℤ_, _-ℤ_, _*ℤ_}
 use lib.Signed.{ltZ, leZ, _≤ℤ_, _<ℤ_}
-use Rattle.refusal.specs.Answer.{Answer, given, refused, check, andThen}
-use Rattle.whole.specs.Whole.{_⊖_, fdiv, fmod, clampZ}
-use Rattle.whole.proofs.Laws.{up, dn, whole, ints, parts, ⊖-same, read-add, read-diff, read-neg, read-times}
-use Rattle.iso_date.specs.Proposal.{date, leapYear, monthLengths, isoDaysInMonth, dayFromMonth, isoDateToEpochDays, epochDays, epochDaysToISODate, isValidISODate, balancedYear, balancedMonth, constrainISODate, clampTo, momentWithinLimits, isoDateWithinLimits, noon, nsPerDay, nsLimit}
-use Rattle.iso_date.specs.Paper.{monthLength, balanced, yearMonth, balanceYearMonth, dateToDay, dayToDate, regulateDate, makeDate, limited, dateLimits, balanceDate}
+use Rattle.refusal.specs.Answer.{given, refused, check}
+use Rattle.whole.specs.Whole.{_⊖_, fmod, clampZ}
+use Rattle.whole.proofs.Laws.{whole, ints, ⊖-same, read-add, read-diff, read-times}
+use Rattle.iso_date.specs.Proposal.{date, leapYear, monthLengths, isoDaysInMonth, dayFromMonth, isoDateToEpochDays, epochDays, epochDaysToISODate, isValidISODate, balancedYear, constrainISODate, clampTo, momentWithinLimits, isoDateWithinLimits, noon, nsPerDay, nsLimit}
+use Rattle.iso_date.specs.Paper.{monthLength, balanced, yearMonth, balanceYearMonth, dateToDay, dayToDate, regulateDate, makeDate, dateLimits, balanceDate}
 use Rattle.iso_date.specs.Inner.{yearBias, monthBias, dayBias, Balances}
 use Rattle.iso_date.specs.declared.IsoDate.{IsoDate}
 use Rattle.options.specs.declared.Overflow.{Overflow}
 use Rattle.options.specs.declared.Overflow.the-variants.{Constrain, Reject}
-use Rattle.iso_date.proofs.Dates.{Valid, show-valid, read-valid, plain-month}
+use Rattle.iso_date.proofs.Dates.{Valid, show-valid, plain-month}
 use Rattle.iso_date.proofs.Tables.{length-least}
 
 and-false : (a b : Bool) → b ≡ false → (a && b) ≡ false

@@ -1,19 +1,17 @@
 -- Dates and day numbers: each valid date has a day number and each day number one valid date, for every whole number.
 -- Assumes nothing.
-use Prim.Native.Nat.{ℕ, zero, suc, _+_, _-_, _*_, _≤_, _<_}
+use Prim.Native.Nat.{ℕ, suc, _+_, _-_, _≤_, _<_}
 use native.Mathlib.Omega.{arith}
 use mathlib.Core.Path.{_≡_, refl, sym, _∙_, ap, ap₂}
 use mathlib.Core.Bool.{Bool, true, false, cond, _&&_}
-use borrow.Author.Tests.{leb-true, leb-false, le-leb}
+use borrow.Author.Tests.{leb-true, le-leb}
 use lib.Dec.{leb}
-use lib.ListN.{getD}
 use lib.IntN.{ℤ, pos, negℤ, natAbs, _+ℤ_, _-ℤ_}
 use lib.Signed.{_≤ℤ_, _<ℤ_}
 use Rattle.whole.specs.Whole.{_⊖_, fdiv, fmod}
-use Rattle.whole.proofs.Laws.{up, dn, parts, whole, ints, read-add, read-diff, read-neg, range-of, less-one}
+use Rattle.whole.proofs.Laws.{parts, whole, ints, read-add, read-neg, range-of, less-one}
 use Rattle.whole.proofs.Edges.{nat-of}
 use Rattle.iso_date.specs.Proposal.{date, dayFromYear, leapYear, monthLengths, isoDaysInMonth, daysBeforeMonth, dayFromMonth, isoDateToEpochDays, epochDays, yearFromDay, monthOf, dayOf, dateIn, epochDaysToISODate, isValidISODate}
-use Rattle.iso_date.specs.declared.IsoDate.{IsoDate}
 use Rattle.iso_date.specs.Inner.{yearBias, dayBias, yearStart, YearHolds, MonthHolds}
 use Rattle.iso_date.proofs.Months.{Found, found, found-back, year-sum, twelve, month-within, month-found}
 use Rattle.iso_date.proofs.Years.{Holds, year-holds, year-unique, year-length, day-biased, in-biased-year}

@@ -8,10 +8,10 @@ use mathlib.Core.Bool.{Bool, true, false, cond, not, _&&_, _||_}
 use mathlib.Core.Logic.{⊎-elim, _≢_}
 use lib.Dec.{eqb, leb}
 use borrow.Author.Tests.{eqb-true, eqb-false, leb-true, leb-false, lt-leb, le-leb}
-use lib.IntN.{ℤ, pos, negsuc, negℤ, natAbs, _+ℤ_, _-ℤ_, _*ℤ_}
+use lib.IntN.{ℤ, pos, _+ℤ_, _-ℤ_}
 use lib.Signed.{leZ, _≤ℤ_, _<ℤ_}
-use Rattle.whole.specs.Whole.{_⊖_, fdiv, fmod}
-use Rattle.whole.proofs.Laws.{up, dn, parts, split, whole, ints, quotient, ⊖-same, read-add, read-diff}
+use Rattle.whole.specs.Whole.{_⊖_}
+use Rattle.whole.proofs.Laws.{up, dn, parts, split, whole, quotient, ⊖-same}
 use Rattle.iso_date.specs.Proposal.{dayFromYear, leapYear, meanYear, yearFromDay, daysBeforeMonth, dayFromMonth}
 use Rattle.iso_date.specs.Inner.{yearBias, dayBias, yearStart, YearHolds}
 

@@ -1,7 +1,7 @@
 -- The steps of the TC39 Temporal proposal and of ECMA-262 that dates lean on, under their names and in their order. All numbers are
 -- whole numbers of any size; `fdiv a n` is ⌊a / n⌋, `fmod a n` is a - n × ⌊a / n⌋.
-use Prim.Native.Nat.{ℕ, zero, suc, _+_, _-_, _*_, min, max}
-use mathlib.Core.Bool.{Bool, true, false, cond, not, _&&_, _||_}
+use Prim.Native.Nat.{ℕ, suc, _+_, _-_, min, max}
+use mathlib.Core.Bool.{Bool, cond, not, _&&_, _||_}
 use mathlib.Core.List.{List, [], _∷_}
 use lib.Dec.{leb, ltb, eqb}
 use lib.ListN.{getD, take}

@@ -6,7 +6,7 @@ ghost use mathlib.Core.Bool.{cond};
 ghost use Prim.Native.Nat.{_+_, _-_, _*_, _<_, _≤_, _^_};
 ghost use lib.ListN.{getD};
 ghost use mathlib.Core.Bool.{true};
-ghost use lib.IntN.{_+ℤ_, _-ℤ_, pos, negℤ};
+ghost use lib.IntN.{pos, negℤ};
 ghost use Rattle.whole.specs.Whole.{_⊖_, clampZ};
 ghost use Rattle.iso_date.specs.Proposal.{leapYear, monthLengths, isoDaysInMonth, daysBeforeMonth, dayFromMonth, isValidISODate, epochDays, epochDaysToISODate, isoDateWithinLimits, clampTo};
 ghost use Rattle.iso_date.specs.Inner.{yearBias, monthBias, dayBias, yearStart, YearHolds, MonthHolds, Balances};

@@ -1,15 +1,15 @@
 -- Checks one after another, and spans in seconds. Assumes nothing.
-use Prim.Native.Nat.{ℕ, zero, suc, _+_, _-_, _*_, _/_, _%_, _≤_, _<_}
-use native.Mathlib.Omega.{arith}
-use mathlib.Core.Path.{_≡_, refl, sym, _∙_, ap}
-use mathlib.Core.Bool.{Bool, true, false, cond, _&&_}
-use borrow.Author.Tests.{leb-true, le-leb, lt-leb, eqb-true, eq-eqb, ne-eqb, lt-ltb, le-ltb}
-use lib.Dec.{leb, ltb, eqb}
-use lib.IntN.{ℤ, pos, negsuc, negℤ, natAbs, _+ℤ_, _-ℤ_, _*ℤ_}
-use lib.Signed.{quotZ, remZ, leZ, _≤ℤ_, _<ℤ_}
-use Rattle.whole.proofs.Laws.{ints, read-add, read-neg}
-use Rattle.refusal.specs.Answer.{Answer, given}
 use Rattle.options.specs.declared.Unit.{Unit as TimeUnit}
+use Prim.Native.Nat.{ℕ, zero, suc, _-_, _/_, _%_, _≤_, _<_}
+use native.Mathlib.Omega.{arith}
+use mathlib.Core.Path.{_≡_, refl, sym}
+use mathlib.Core.Bool.{Bool, true, false, _&&_}
+use borrow.Author.Tests.{leb-true, le-leb, lt-leb, ne-eqb, lt-ltb, le-ltb}
+use lib.Dec.{eqb}
+use lib.IntN.{ℤ, pos, negsuc, negℤ, natAbs, _-ℤ_}
+use lib.Signed.{leZ, _≤ℤ_, _<ℤ_}
+use Rattle.whole.proofs.Laws.{ints, read-add, read-neg}
+use Rattle.refusal.specs.Answer.{given}
 use Rattle.iso_time.specs.Proposal.{isValidTime, nanoseconds, inSeconds, differenceTime, dividend, validIncrement}
 use Rattle.iso_time.specs.Paper.{bounded, allBounded, timeDifference}
 use Rattle.iso_time.specs.declared.IsoTime.{IsoTime}

@@ -1,21 +1,21 @@
 -- Rounding within a field, once over unit and step. Assumes nothing.
-use Prim.Native.Nat.{ℕ, zero, suc, _+_, _-_, _*_, _/_, _%_, _≤_, _<_}
+use Prim.Native.Nat.{ℕ, _+_, _-_, _*_, _/_, _≤_, _<_}
 use native.Mathlib.Nat.{mul-div-cancel, mul-assoc, mul-pos, mul-le-mul-right, le-of-lt, le-trans}
 use native.Mathlib.Omega.{arith}
-use mathlib.Core.Path.{_≡_, refl, sym, _∙_, ap, ap₂}
-use mathlib.Core.Bool.{Bool, true, false, cond, _&&_}
-use lib.Dec.{eqb, ltb}
+use mathlib.Core.Path.{_≡_, refl, sym, _∙_, ap}
+use mathlib.Core.Bool.{Bool, true, false}
+use lib.Dec.{eqb}
 use borrow.Author.Tests.{eqb-true, ltb-true}
-use lib.IntN.{ℤ, pos, _+ℤ_, _*ℤ_}
+use lib.IntN.{pos}
 use Rattle.whole.specs.Whole.{fdiv}
 use Rattle.options.specs.declared.Unit.{Unit as TimeUnit}
 use Rattle.options.specs.declared.Unit.the-variants as U
-use Rattle.rounding.specs.Proposal.{getUnsignedRoundingMode, roundNumberToIncrement}
+use Rattle.rounding.specs.Proposal.{getUnsignedRoundingMode}
 use Rattle.rounding.specs.Inner.{roundedSize}
 use Rattle.rounding.specs.declared.RoundingMode.{RoundingMode}
 use Rattle.rounding.specs.declared.UnsignedRoundingMode.{UnsignedRoundingMode}
 use Rattle.rounding.proofs.Rounds.{number-above, rounded-multiple}
-use Rattle.iso_time.specs.Proposal.{time, isValidTime, balanced, balanceTime, nanoseconds, quantity, unitLength, roundedUnits, withUnits, roundTime, dividend, validIncrement}
+use Rattle.iso_time.specs.Proposal.{time, nanoseconds, quantity, unitLength, roundedUnits, withUnits, roundTime, dividend, validIncrement}
 use Rattle.iso_time.specs.Inner.{nsPerDay, Carried}
 use Rattle.iso_time.specs.declared.IsoTime.{IsoTime}
 use Rattle.iso_time.specs.declared.BalancedTime.{BalancedTime}

@@ -1,13 +1,13 @@
 -- What holds of times beyond the contracts. Assumes nothing.
-use Prim.Native.Nat.{ℕ, zero, suc, _+_, _-_, _*_, _/_, _%_, _≤_, _<_}
+use Rattle.options.specs.declared.Unit.{Unit as TimeUnit}
+use Prim.Native.Nat.{ℕ, suc, _+_, _-_, _*_, _<_}
 use native.Mathlib.Nat.{div-add-mod}
 use native.Mathlib.Omega.{arith}
-use mathlib.Core.Path.{_≡_, refl, sym, _∙_, ap}
+use mathlib.Core.Path.{_≡_, sym, _∙_, ap}
 use mathlib.Core.Bool.{true, false}
 use lib.IntN.{ℤ, pos, negsuc, negℤ, _+ℤ_, _-ℤ_, _*ℤ_}
 use lib.Signed.{quotZ, remZ}
 use Rattle.whole.proofs.Laws.{whole, ints, read-add, read-neg}
-use Rattle.options.specs.declared.Unit.{Unit as TimeUnit}
 use Rattle.rounding.specs.Proposal.{getUnsignedRoundingMode}
 use Rattle.rounding.specs.Inner.{roundedSize}
 use Rattle.rounding.specs.declared.RoundingMode.{RoundingMode}

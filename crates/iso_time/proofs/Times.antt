@@ -1,15 +1,13 @@
 -- Times as one number: fields and nanoseconds, and the balance of six fields. Assumes nothing.
-use Prim.Native.Nat.{ℕ, zero, suc, _+_, _-_, _*_, _/_, _%_, _^_, _≤_, _<_, min}
+use Prim.Native.Nat.{ℕ, _+_, _*_, _/_, _%_, _≤_, _<_, min}
 use native.Mathlib.Nat.{mod-lt, div-add-mod}
 use native.Mathlib.Omega.{arith}
 use mathlib.Core.Path.{_≡_, refl, sym, _∙_, ap, ap₂}
-use mathlib.Core.Bool.{Bool, true, false, cond, _&&_}
+use mathlib.Core.Bool.{Bool, true, false, _&&_}
 use borrow.Author.Tests.{leb-true, le-leb}
-use lib.Dec.{leb}
 use lib.IntN.{ℤ, pos, negsuc, negℤ, natAbs, _+ℤ_, _-ℤ_, _*ℤ_}
-use lib.Signed.{_≤ℤ_, _<ℤ_}
 use Rattle.whole.specs.Whole.{_⊖_, fdiv, fmod}
-use Rattle.whole.proofs.Laws.{up, dn, parts, whole, ints, ⊖-add, fdiv-fmod, fdiv-unique, fmod-lt, quotient, read-diff, range-of, of-pos, read-add, read-neg}
+use Rattle.whole.proofs.Laws.{up, dn, parts, whole, ints, ⊖-add, fdiv-fmod, fdiv-unique, fmod-lt, quotient, of-pos, read-add, read-neg}
 use Rattle.iso_time.specs.Proposal.{time, isValidTime, balanced, balanceTime, nanoseconds}
 use Rattle.iso_time.specs.Inner.{fieldBias, nsPerDay}
 use Rattle.iso_time.specs.declared.IsoTime.{IsoTime}

@@ -1,8 +1,8 @@
 -- The same numbers as naturals, for the contracts inside. No public contract cites this.
-use Prim.Native.Nat.{ℕ, _+_, _*_}
+use Prim.Native.Nat.{ℕ}
 use mathlib.Core.Path.{_≡_}
 use mathlib.Core.Bool.{true}
-use lib.IntN.{ℤ, pos, _+ℤ_, _*ℤ_}
+use lib.IntN.{pos, _+ℤ_, _*ℤ_}
 use Rattle.iso_time.specs.Proposal.{nanoseconds, isValidTime}
 use Rattle.iso_time.specs.declared.BalancedTime.{BalancedTime}
 

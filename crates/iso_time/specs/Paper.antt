@@ -1,4 +1,5 @@
 -- What the calls of modules 3 and 5 answer, for every input: the checks in their order with their numbers, then the answer.
+use Rattle.options.specs.declared.Unit.{Unit as TimeUnit}
 use Prim.Native.Nat.{ℕ}
 use mathlib.Core.Bool.{Bool, _&&_}
 use lib.Dec.{leb, ltb}
@@ -6,7 +7,6 @@ use lib.IntN.{ℤ, natAbs}
 use Rattle.refusal.specs.Answer.{Answer, given, refused, check}
 use Rattle.options.specs.declared.Overflow.{Overflow}
 use Rattle.options.specs.declared.Overflow.the-variants.{Constrain, Reject}
-use Rattle.options.specs.declared.Unit.{Unit as TimeUnit}
 use Rattle.rounding.specs.declared.RoundingMode.{RoundingMode}
 use Rattle.iso_time.specs.Proposal.{isValidTime, constrainTime, balanceTime, differenceTime, roundTime, unitLength, validIncrement}
 use Rattle.iso_time.specs.declared.IsoTime.{IsoTime}

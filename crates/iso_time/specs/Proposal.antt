@@ -1,9 +1,9 @@
 -- The steps of the TC39 Temporal proposal that times lean on, under their names and in their order. All numbers are whole numbers of
 -- any size; `fdiv a n` is ⌊a / n⌋, `fmod a n` is a - n × ⌊a / n⌋.
 use Prim.Native.Nat.{ℕ, _+_, _*_, _%_, min}
-use mathlib.Core.Bool.{Bool, true, false, cond, _&&_}
+use mathlib.Core.Bool.{Bool, cond, _&&_}
 use lib.Dec.{leb, ltb, eqb}
-use lib.IntN.{ℤ, pos, _+ℤ_, _-ℤ_, _*ℤ_}
+use lib.IntN.{ℤ, pos, _+ℤ_, _-ℤ_}
 use lib.Signed.{quotZ, remZ}
 use Rattle.whole.specs.Whole.{fdiv, fmod}
 use Rattle.options.specs.declared.Unit.{Unit as TimeUnit}

@@ -6,7 +6,7 @@ use options::Unit;
 use rounding::RoundingMode;
 ghost use mathlib.Core.Path.{_≡_};
 ghost use mathlib.Core.Bool.{true};
-ghost use Prim.Native.Nat.{_+_, _*_, _≤_, _<_, _^_};
+ghost use Prim.Native.Nat.{_+_, _*_, _≤_, _<_};
 ghost use lib.IntN.{natAbs, pos, _-ℤ_};
 ghost use Rattle.whole.specs.Whole.{_⊖_};
 ghost use Rattle.iso_time.specs.Proposal.{isValidTime, balanceTime, nsFromMillisecond, nanoseconds, quantity, unitLength, dividend, validIncrement, roundTime, inSeconds};

@@ -5,9 +5,7 @@ use options::Overflow;
 use options::Unit;
 use rounding::RoundingMode;
 ghost use mathlib.Core.Path.{_≡_};
-ghost use Prim.Native.Nat.{min, _≤_};
-ghost use lib.IntN.{natAbs};
-ghost use lib.Dec.{leb};
+ghost use Prim.Native.Nat.{min};
 ghost use Rattle.iso_time.specs.Proposal.{time, isValidTime, constrainTime};
 ghost use Rattle.iso_time.specs.Paper.{ofTime, ofBalance, ofSpan, regulateTime, balanceTimeFields, timeDifference, roundedTime, bounded, allBounded};
 

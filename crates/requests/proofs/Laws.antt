@@ -1,5 +1,5 @@
 -- How the numbers of a request are found field by field, and what a call then replies. Assumes nothing.
-use Prim.Native.Nat.{ℕ, zero, suc, _+_, _-_, _≤_, _<_}
+use Prim.Native.Nat.{ℕ, zero, suc, _+_, _≤_, _<_}
 use native.Mathlib.Omega.{arith}
 use native.Mathlib.Numerals.{add-one}
 use mathlib.Core.Path.{_≡_, refl, sym, _∙_, ap, ap₂}
@@ -9,11 +9,10 @@ use lib.ListN.{length, getD, take, drop, length-drop, drop-of-length-le}
 use lib.Dec.{eqb}
 use borrow.Author.Tests.{eq-eqb, eqb-true}
 use lib.Seq.{drop-cons}
-use lib.IntN.{ℤ, pos, negℤ, natAbs}
+use lib.IntN.{ℤ, pos}
 use lib.Signed.{leZ, _≤ℤ_}
-use Rattle.refusal.specs.Answer.{Answer, given, refused}
 use Rattle.whole.proofs.Laws.{ints}
-use Rattle.lines.specs.Text.{fields, Found, number, none, numberOf, within, newline, answerText, questionText}
+use Rattle.lines.specs.Text.{fields, Found, number, none, within, newline, answerText, questionText}
 use Rattle.lines.specs.Wrote.{Wrote}
 use Rattle.options.specs.declared.Overflow.{Overflow}
 use Rattle.options.specs.declared.Overflow.the-variants.{Constrain, Reject}
@@ -22,7 +21,7 @@ use Rattle.options.specs.declared.Unit.the-variants as U
 use Rattle.rounding.specs.declared.RoundingMode.{RoundingMode}
 use Rattle.rounding.specs.declared.RoundingMode.the-variants as M
 use Rattle.iso_time.specs.declared.IsoTime.{IsoTime}
-use Rattle.requests.specs.Protocol.{bytes, sameBytes, Kind, Arguments, these, noArguments, also, arguments, Reply, question, answer, said, replyWith, replyText}
+use Rattle.requests.specs.Protocol.{bytes, sameBytes, Kind, Arguments, these, noArguments, also, arguments, Reply, question, answer, said, replyText}
 use Rattle.requests.specs.Calls.{units, modes, unitOf, modeOf, timeValues, nameOf, callIn, everyCall, isKnown, kindsOf, meaningOf, replyOf, replyTo, responseTo, overflowOf}
 use Rattle.requests.specs.Meaning.{Says, readAs, collect, overflowNumber, unitNumber, modeNumber}
 use Rattle.requests.specs.declared.Call.{Call}

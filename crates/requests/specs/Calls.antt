@@ -1,7 +1,7 @@
 -- The calls, in the order of the protocol's table: the name, the parameters' types and what is answered.
 use Prim.Native.Nat.{ℕ, _+_}
 use Prim.Native.String.{String}
-use mathlib.Core.Bool.{Bool, true, false, cond, not}
+use mathlib.Core.Bool.{Bool, cond, not}
 use mathlib.Core.List.{List, [], _∷_, _++_}
 use lib.Dec.{eqb}
 use lib.ListN.{getD, drop}

@@ -1,14 +1,14 @@
 -- What a line is answered: its fields are a call's name and the call's numbers, each of its parameter's type.
-use Prim.Native.Nat.{ℕ, zero, suc, _-_, _^_}
+use Prim.Native.Nat.{ℕ, _-_, _^_}
 use Prim.Native.Char.{code}
 use Prim.Native.String.{String}
 use Prim.Native.String as Text
-use mathlib.Core.Bool.{Bool, true, false, cond, _&&_}
-use mathlib.Core.List.{List, [], _∷_, _++_}
+use mathlib.Core.Bool.{Bool, true, false, _&&_}
+use mathlib.Core.List.{List, [], _∷_}
 use lib.Dec.{eqb}
 use lib.IntN.{ℤ, pos, negℤ}
 use Rattle.refusal.specs.Answer.{Answer, given, refused}
-use Rattle.lines.specs.Text.{fields, Found, number, none, numberOf, within, answerText, questionText, newline}
+use Rattle.lines.specs.Text.{Found, number, none, numberOf, within, answerText, questionText}
 
 -- ---- names
 

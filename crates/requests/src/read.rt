@@ -8,8 +8,6 @@ use options::Overflow;
 use options::Unit;
 use rounding::RoundingMode;
 ghost use mathlib.Core.Path.{_≡_};
-ghost use mathlib.Core.List.{[]};
-ghost use lib.ListN.{getD};
 ghost use Rattle.lines.specs.Text.{fields};
 ghost use Rattle.lines.specs.Meaning.{ofSigned};
 ghost use Rattle.requests.specs.Protocol.{signed, unsigned};

@@ -1,20 +1,20 @@
 -- The rounder on sizes gives the proposal's numbers. Assumes nothing.
 use Prim.Native.Nat.{ℕ, zero, suc, _+_, _-_, _*_, _/_, _%_, _^_, _≤_, _<_}
-use native.Mathlib.Nat.{div-mul-le-self, div-add-mod', mod-lt, add-zero}
+use native.Mathlib.Nat.{div-mul-le-self, div-add-mod', mod-lt}
 use native.Mathlib.Omega.{arith}
-use mathlib.Core.Path.{_≡_, refl, sym, _∙_, ap, ap₂}
-use mathlib.Core.Bool.{Bool, true, false, cond, not, _&&_}
+use mathlib.Core.Path.{_≡_, refl, sym, _∙_, ap}
+use mathlib.Core.Bool.{Bool, true, false, cond, not}
 use mathlib.Core.Logic.{⊎-elim}
 use mathlib.Core.List.{List, [], _∷_}
-use borrow.Author.Tests.{eq-eqb, ne-eqb, lt-ltb, le-ltb, le-leb, lt-leb, eqb-true, eqb-false, ltb-true, ltb-false, leb-true, leb-false}
-use lib.Dec.{ltb, leb, eqb}
+use borrow.Author.Tests.{eq-eqb, ne-eqb, lt-ltb, le-ltb, le-leb, lt-leb, eqb-true, eqb-false, leb-true, leb-false}
+use lib.Dec.{leb, eqb}
 use lib.ListN.{getD}
 use lib.IntN.{ℤ, pos, negsuc, negℤ, negℤ-negℤ, _+ℤ_, _*ℤ_}
-use lib.Signed.{ltZ, leZ, _≤ℤ_, _<ℤ_}
-use Rattle.refusal.specs.Answer.{Answer, given, refused, check}
+use lib.Signed.{ltZ}
+use Rattle.refusal.specs.Answer.{given, refused, check}
 use Rattle.whole.specs.Whole.{_⊖_, fdiv, fmod}
-use Rattle.whole.proofs.Laws.{up, dn, parts, split, whole, ints, quotient, fdiv-unique, read-add, read-neg}
-use Rattle.rounding.specs.Proposal.{rowOf, getUnsignedRoundingMode, nearer, applyRule, applyUnsignedRoundingMode, roundQuotient, roundNumberToIncrement, roundNumberToIncrementAsIfPositive}
+use Rattle.whole.proofs.Laws.{up, split, whole, ints, fdiv-unique, read-add, read-neg}
+use Rattle.rounding.specs.Proposal.{getUnsignedRoundingMode, applyRule, applyUnsignedRoundingMode, roundQuotient, roundNumberToIncrement, roundNumberToIncrementAsIfPositive}
 use Rattle.rounding.specs.Paper.{inSigned64, rounded, roundNumber, roundNumberAsIfPositive}
 use Rattle.rounding.specs.Inner.{modeRow, signColumn, upBy, takesUp, sized, roundedSize, roundedBelow, AtMost, positiveSize, negativeSize}
 use Rattle.rounding.specs.declared.RoundingMode.{RoundingMode}

@@ -9,10 +9,10 @@ use mathlib.Core.Bool.{true, false}
 use lib.Dec.{T}
 use lib.IntN.{ℤ, pos, negsuc, negℤ, natAbs, _+ℤ_, _-ℤ_}
 use lib.Signed.{ltZ, _≤ℤ_, _<ℤ_, nonNeg, yes-nonNeg, pos-natAbs}
-use mir.Syntax.{Width, w32, w64}
+use mir.Syntax.{w32, w64}
 use mir.Val.{SFits, Fits}
 use Rattle.whole.specs.Whole.{_⊖_, fdiv, fmod, clampZ}
-use Rattle.whole.proofs.Laws.{up, dn, ints, whole, read-add, read-diff, read-neg, range-of, parts, of-pos, of-negsuc, ⊖-same, show-eq}
+use Rattle.whole.proofs.Laws.{up, ints, whole, read-add, read-diff, read-neg, range-of}
 
 pub nat-of : (z : ℤ) → pos 0 ≤ℤ z → natAbs z ≡ up z
 nat-of (pos n) h = refl

@@ -1,6 +1,6 @@
 -- The balance of the naturals, given back.
 use borrow.Author.Needs.{needs}
-use mathlib.Core.Path.{_≡_, refl, sym, _∙_, ap}
+use mathlib.Core.Path.{sym, _∙_}
 use mir.Facts.{toZ-ofZ}
 use Rattle.iso_date.proofs.Answers.{year-month-is}
 use Rattle.iso_date.proofs.balance_iso_year_month.Statement.{statement}

@@ -1,10 +1,6 @@
 -- The month clamped to the year, then the day to the month.
 use borrow.Author.Needs.{needs}
-use native.Mathlib.Omega.{arith}
-use mathlib.Core.Path.{_≡_, refl, sym, _∙_, ap}
 use mir.Facts.{toZ-ofZ}
-use mir.Syntax.{w32, w64}
-use mir.Val.{toZ, ofZ}
 use Rattle.iso_date.proofs.Answers.{constrained-valid, length-positive}
 use Rattle.iso_date.proofs.constrain.Statement.{statement}
 use Rattle.iso_date.proofs.constrain.Tie as tie

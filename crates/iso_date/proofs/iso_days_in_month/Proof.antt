@@ -1,9 +1,6 @@
 -- A month outside 1 to 12 is refused, the others have the length of the definition.
 use borrow.Author.Needs.{needs}
-use mathlib.Core.Path.{_≡_, refl, sym, _∙_, ap}
 use mir.Facts.{toZ-ofZ}
-use mir.Syntax.{w32, w64}
-use mir.Val.{toZ, ofZ}
 use Rattle.iso_date.proofs.Answers.{no-month-low, no-month-high, month-length}
 use Rattle.iso_date.proofs.iso_days_in_month.Statement.{statement}
 use Rattle.iso_date.proofs.iso_days_in_month.Tie as tie

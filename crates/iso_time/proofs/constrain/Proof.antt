@@ -1,6 +1,5 @@
 -- Each field with its bound.
 use borrow.Author.Needs.{needs}
-use mathlib.Core.Path.{_≡_, refl, sym, _∙_, ap}
 use Rattle.iso_time.specs.Proposal.{constrainTime}
 use Rattle.iso_time.proofs.Times.{time-eq}
 use Rattle.iso_time.proofs.constrain.Statement.{statement}

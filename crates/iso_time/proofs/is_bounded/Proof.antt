@@ -1,7 +1,6 @@
 -- Below the bound, or by the upper comparison.
 use borrow.Author.Needs.{needs}
 use native.Mathlib.Omega.{arith}
-use mathlib.Core.Path.{_≡_, refl, sym, _∙_, ap}
 use mir.Facts.{toZ-ofZ}
 use lib.IntN.{negℤ, pos}
 use lib.Signed.{_≤ℤ_, _<ℤ_}

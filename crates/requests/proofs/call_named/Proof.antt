@@ -1,6 +1,6 @@
 -- Each name in turn: the first that is the same is the call.
 use borrow.Author.Needs.{needs}
-use mathlib.Core.Path.{_≡_, refl, sym, _∙_, ap}
+use mathlib.Core.Path.{_≡_, sym, _∙_}
 use lib.ListN.{drop}
 use Rattle.requests.specs.Calls.{callIn, everyCall}
 use Rattle.requests.specs.declared.Call.the-variants.{MonthLength, DateToDay, DayToDate, BalanceYearMonth, RegulateDate, MakeDate, DateLimits, BalanceDate}

@@ -1,6 +1,6 @@
 -- The first field names the call; its reply is that of the call.
 use borrow.Author.Needs.{needs}
-use mathlib.Core.Path.{_≡_, refl, sym, _∙_, ap}
+use mathlib.Core.Path.{_∙_}
 use Rattle.requests.specs.declared.Call.the-variants.{MonthLength, DateToDay, DayToDate, BalanceYearMonth, RegulateDate, MakeDate, DateLimits, BalanceDate, RegulateTime, BalanceTime, TimeDifference, RoundNumber, RoundNumberAsIfPositive, RoundTime, Unknown}
 use Rattle.requests.proofs.Laws.{says-as, reply-as, unknown-reply}
 use Rattle.requests.proofs.reply_to.Statement.{statement}

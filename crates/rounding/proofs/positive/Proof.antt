@@ -1,9 +1,8 @@
 -- A size above zero is the number itself.
 use borrow.Author.Needs.{needs}
 use native.Mathlib.Omega.{arith}
-use mathlib.Core.Path.{_≡_, refl, sym, _∙_, ap}
+use mathlib.Core.Path.{sym, _∙_, ap}
 use mir.Facts.{toZ-ofZ}
-use Rattle.rounding.specs.declared.inner.Size.{Size}
 use Rattle.refusal.specs.Answer.{given}
 use Rattle.rounding.specs.Inner.{positiveSize}
 use Rattle.rounding.proofs.Rounds.{is-at-most}

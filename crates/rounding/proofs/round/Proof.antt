@@ -1,7 +1,7 @@
 -- A step of 0 is refused; the size is rounded with the rule, and its sign given back.
 use borrow.Author.Needs.{needs}
 use native.Mathlib.Omega.{arith}
-use mathlib.Core.Path.{_≡_, refl, sym, _∙_, ap}
+use mathlib.Core.Path.{sym, _∙_, ap}
 use mir.Facts.{toZ-ofZ}
 use Rattle.whole.proofs.Laws.{ints}
 use Rattle.rounding.specs.Inner.{positiveSize, negativeSize}

@@ -1,6 +1,5 @@
-use mir.Facts.{toZ-ofZ, toZ-pos, sfits-widen}
-use mir.Syntax.{w32, w64}
-use mathlib.Core.Path.{_≡_, sym, _∙_}
+use mir.Facts.{toZ-ofZ}
+use mathlib.Core.Path.{_∙_}
 use Rattle.whole.proofs.Edges.{clamp-low, clamp-high, clamp-same}
 use Rattle.whole.proofs.Laws.{ints}
 use native.Mathlib.Omega.{arith}

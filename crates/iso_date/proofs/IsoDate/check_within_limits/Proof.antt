@@ -1,6 +1,6 @@
 -- Fields, then limits.
 use borrow.Author.Needs.{needs}
-use mathlib.Core.Path.{_≡_, refl, sym, _∙_, ap}
+use mathlib.Core.Path.{sym, _∙_}
 use borrow.Author.Tests.{not-true, not-false}
 use Rattle.iso_date.proofs.Answers.{limits-bad, limits-out, limits-within}
 use Rattle.iso_date.proofs.IsoDate.check_within_limits.Statement.{statement}

@@ -1,9 +1,7 @@
 -- Past the balanced range 4, within it the date of the day.
 use native.Mathlib.Omega.{arith}
-use mathlib.Core.Path.{_≡_, refl, sym, _∙_, ap}
+use mathlib.Core.Path.{sym, _∙_, ap}
 use mir.Facts.{toZ-ofZ}
-use mir.Syntax.{w32, w64}
-use mir.Val.{toZ, ofZ}
 use Rattle.whole.proofs.Laws.{ints, read-diff}
 use Rattle.iso_date.specs.Inner.{dayBias}
 use Rattle.iso_date.specs.Proposal.{epochDaysToISODate}

@@ -1,8 +1,7 @@
 -- The four tests in turn are those of the definition.
 use borrow.Author.Needs.{needs}
-use mathlib.Core.Path.{_≡_, refl, sym, _∙_, ap}
-use mir.Facts.{toZ-ofZ}
-use mir.Syntax.{w32, w64}
+use mathlib.Core.Path.{_≡_, sym, _∙_, ap}
+use mir.Syntax.{w32}
 use mir.Val.{toZ, ofZ}
 use lib.Dec.{leb}
 use Rattle.iso_date.proofs.Answers.{month-zero, month-past, day-zero, day-decides}

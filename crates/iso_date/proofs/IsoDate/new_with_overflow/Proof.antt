@@ -1,6 +1,6 @@
 -- A refusal of regulating ends it; a regulated date is valid, so the limit call can refuse it by 2 alone.
 use borrow.Author.Needs.{needs}
-use mathlib.Core.Path.{_≡_, refl, sym, _∙_, ap}
+use mathlib.Core.Path.{sym, _∙_, ap}
 use mir.Facts.{toZ-ofZ}
 use Rattle.iso_date.specs.Paper.{ofDate, ofLimit}
 use Rattle.iso_date.proofs.Answers.{make-refused, make-out, make-within}

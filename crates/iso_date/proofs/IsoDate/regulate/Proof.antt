@@ -1,6 +1,6 @@
 -- Constrained, or refused where a field is not valid.
 use borrow.Author.Needs.{needs}
-use mathlib.Core.Path.{_≡_, refl, sym, _∙_, ap}
+use mathlib.Core.Path.{sym, _∙_, ap}
 use mir.Facts.{toZ-ofZ}
 use Rattle.refusal.specs.Answer.{given}
 use Rattle.iso_date.proofs.Answers.{regulate-constrain, regulate-good, regulate-bad}

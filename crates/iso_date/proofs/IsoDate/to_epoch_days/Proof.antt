@@ -1,14 +1,12 @@
 -- Fields, then the balanced range; the day number is the definition's.
 use borrow.Author.Needs.{needs}
 use native.Mathlib.Omega.{arith}
-use mathlib.Core.Path.{_≡_, refl, sym, _∙_, ap}
+use mathlib.Core.Path.{sym, _∙_, ap}
 use mir.Facts.{toZ-ofZ}
-use mir.Syntax.{w32, w64}
-use mir.Val.{toZ, ofZ, SFits}
+use mir.Syntax.{w64}
+use mir.Val.{SFits}
 use borrow.Author.Tests.{not-true, not-false}
-use lib.IntN.{ℤ}
 use Rattle.whole.proofs.Laws.{ints}
-use Rattle.iso_date.specs.Paper.{balanced}
 use Rattle.refusal.specs.Answer.{given}
 use Rattle.iso_date.proofs.Answers.{day-bad, day-far, day-given, too-low, too-high, in-range}
 use Rattle.iso_date.proofs.IsoDate.to_epoch_days.Statement.{statement}

@@ -1,7 +1,7 @@
 -- The exact count is that of the first day of the month, plus day, minus 1; its date is the answer where it is balanced.
 use borrow.Author.Needs.{needs}
 use native.Mathlib.Omega.{arith}
-use mathlib.Core.Path.{_≡_, refl, sym, _∙_, ap}
+use mathlib.Core.Path.{sym, _∙_}
 use mir.Facts.{toZ-ofZ}
 use Rattle.whole.proofs.Laws.{ints, read-diff}
 use Prim.Native.Nat.{_^_}

@@ -1,7 +1,7 @@
 -- The year that holds the day, the month that holds what is left, and the day that is left then: the date of the definition.
 use borrow.Author.Needs.{needs}
 use native.Mathlib.Omega.{arith}
-use mathlib.Core.Path.{_≡_, refl, sym, _∙_, ap}
+use mathlib.Core.Path.{_∙_}
 use mir.Facts.{toZ-ofZ}
 use Rattle.iso_date.proofs.Years.{in-biased-year, year-range}
 use Rattle.iso_date.proofs.Months.{month-day-small}

@@ -1,7 +1,6 @@
 -- The table's days, and the leap day after February.
 use borrow.Author.Needs.{needs}
 use native.Mathlib.Omega.{arith}
-use mathlib.Core.Path.{_≡_, refl, sym, _∙_, ap}
 use Rattle.iso_date.proofs.Tables.{before-early, before-late, before-small}
 use Rattle.iso_date.proofs.inner.days_before.Statement.{statement}
 use Rattle.iso_date.proofs.inner.days_before.Tie as tie

@@ -1,9 +1,7 @@
 -- The leap year test of the year, and the table.
 use borrow.Author.Needs.{needs}
-use mathlib.Core.Path.{_≡_, refl, sym, _∙_, ap}
+use mathlib.Core.Path.{sym, _∙_}
 use mir.Facts.{toZ-ofZ}
-use mir.Syntax.{w32, w64}
-use mir.Val.{toZ, ofZ}
 use Rattle.iso_date.proofs.Answers.{length-of-year}
 use Rattle.iso_date.proofs.inner.days_in_month.Statement.{statement}
 use Rattle.iso_date.proofs.inner.days_in_month.Tie as tie

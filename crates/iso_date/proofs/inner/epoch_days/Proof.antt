@@ -1,12 +1,12 @@
 -- The first day of the month and the day add up, at the bias.
 use borrow.Author.Needs.{needs}
 use native.Mathlib.Omega.{arith}
-use mathlib.Core.Path.{_≡_, refl, sym, _∙_, ap}
+use mathlib.Core.Path.{_≡_, sym, _∙_}
 use mir.Facts.{toZ-ofZ}
-use mir.Syntax.{w32, w64}
+use mir.Syntax.{w32}
 use mir.Val.{toZ, ofZ}
 use Rattle.iso_date.proofs.Answers.{day-of-date}
-use Rattle.iso_date.proofs.Dates.{Valid, read-valid}
+use Rattle.iso_date.proofs.Dates.{read-valid}
 use Rattle.iso_date.proofs.inner.epoch_days.Statement.{statement}
 use Rattle.iso_date.proofs.inner.epoch_days.Tie as tie
 

@@ -1,5 +1,5 @@
 -- The three tests in turn are those of the definition.
-use mathlib.Core.Path.{_≡_, refl, sym, _∙_, ap}
+use mathlib.Core.Path.{sym, _∙_}
 use borrow.Author.Tests.{ne-eqb, eq-eqb}
 use Rattle.iso_date.proofs.Years.{biased-leap}
 use Rattle.iso_date.proofs.inner.is_leap.Statement.{statement}

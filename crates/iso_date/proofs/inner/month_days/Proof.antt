@@ -1,7 +1,6 @@
 -- February is the table's 28 and the leap day; the other months stand in the table.
 use borrow.Author.Needs.{needs}
 use native.Mathlib.Omega.{arith}
-use mathlib.Core.Path.{_≡_, refl, sym, _∙_, ap}
 use Prim.Native.Nat.{_-_, _<_}
 use Rattle.iso_date.proofs.Tables.{length-february, length-other}
 use Rattle.iso_date.proofs.inner.month_days.Statement.{statement}

@@ -1,6 +1,5 @@
 -- A month begins at most 31 days after the one before it, so n / 31 is the month or the one before it.
 use borrow.Author.Needs.{needs}
-use native.Mathlib.Omega.{arith}
 use Rattle.iso_date.proofs.Months.{picked-next, picked, picked-last}
 use Rattle.iso_date.proofs.inner.month_of.Statement.{statement}
 use Rattle.iso_date.proofs.inner.month_of.Tie as tie

@@ -1,7 +1,6 @@
 -- The year's first day and the days before the month add up, at the bias.
 use borrow.Author.Needs.{needs}
 use native.Mathlib.Omega.{arith}
-use mathlib.Core.Path.{_≡_, refl, sym, _∙_, ap}
 use Rattle.iso_date.proofs.Years.{month-biased}
 use Rattle.iso_date.proofs.inner.month_start.Statement.{statement}
 use Rattle.iso_date.proofs.inner.month_start.Tie as tie

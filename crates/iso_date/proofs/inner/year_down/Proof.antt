@@ -1,10 +1,8 @@
 -- The three ways of a clamp.
 use borrow.Author.Needs.{needs}
 use native.Mathlib.Omega.{arith}
-use mathlib.Core.Path.{_≡_, refl, sym, _∙_, ap}
+use mathlib.Core.Path.{_∙_}
 use mir.Facts.{toZ-ofZ}
-use mir.Syntax.{w32, w64}
-use mir.Val.{toZ, ofZ}
 use Rattle.whole.proofs.Laws.{ints, read-diff}
 use Rattle.whole.proofs.Edges.{clamp-low, clamp-high, clamp-same}
 use Rattle.iso_date.specs.Inner.{yearBias}

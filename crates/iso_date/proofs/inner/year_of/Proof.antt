@@ -1,9 +1,6 @@
 -- The estimate is the year, or the year after: two bounds of yearStart by the mean year.
 use borrow.Author.Needs.{needs}
-use native.Mathlib.Omega.{arith}
 use Rattle.iso_date.proofs.Years.{year-exact, year-late}
-use Rattle.iso_date.specs.Inner.{yearStart}
-use Prim.Native.Nat.{_<_, _≤_}
 use Rattle.iso_date.proofs.inner.year_of.Statement.{statement}
 use Rattle.iso_date.proofs.inner.year_of.Tie as tie
 

@@ -1,6 +1,5 @@
 -- Every year of 32 bits lies within the bias.
 use borrow.Author.Needs.{needs}
-use mathlib.Core.Path.{_≡_, refl, sym, _∙_, ap}
 use mir.Facts.{toZ-ofZ}
 use Rattle.iso_date.proofs.inner.year_up.Statement.{statement}
 use Rattle.iso_date.proofs.inner.year_up.Tie as tie

@@ -1,6 +1,6 @@
 -- Both times are checked in turn, and their nanoseconds subtracted.
 use borrow.Author.Needs.{needs}
-use mathlib.Core.Path.{_≡_, refl, sym, _∙_, ap}
+use mathlib.Core.Path.{sym, _∙_}
 use borrow.Author.Tests.{not-true, not-false}
 use Rattle.iso_time.specs.Paper.{timeDifference}
 use Rattle.iso_time.proofs.Checks.{difference-is}

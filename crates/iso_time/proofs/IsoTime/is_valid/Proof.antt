@@ -1,6 +1,5 @@
 -- The six tests in turn.
-use native.Mathlib.Omega.{arith}
-use mathlib.Core.Path.{_≡_, refl, sym, _∙_, ap}
+use mathlib.Core.Path.{_∙_}
 use borrow.Author.Tests.{le-leb, lt-leb}
 use Rattle.iso_time.specs.Proposal.{isValidTime}
 use Rattle.iso_time.proofs.Checks.{fails, passes}

@@ -1,6 +1,6 @@
 -- By the way of regulating: the nearest, or the fields as they are where they are valid.
 use borrow.Author.Needs.{needs}
-use mathlib.Core.Path.{_≡_, refl, sym, _∙_, ap}
+use mathlib.Core.Path.{sym, _∙_}
 use Rattle.iso_time.specs.Paper.{regulateTime}
 use Rattle.iso_time.proofs.IsoTime.new.Statement.{statement}
 use Rattle.iso_time.proofs.IsoTime.new.Tie as tie

@@ -1,7 +1,7 @@
 -- Fields, unit and increment are checked in turn.
 use borrow.Author.Needs.{needs}
 use native.Mathlib.Omega.{arith}
-use mathlib.Core.Path.{_≡_, refl, sym, _∙_, ap}
+use mathlib.Core.Path.{_≡_, sym, _∙_}
 use borrow.Author.Tests.{lt-ltb, le-ltb, not-true, not-false}
 use lib.Dec.{ltb}
 use mathlib.Core.Bool.{true, false}

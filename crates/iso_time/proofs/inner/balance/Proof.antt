@@ -1,7 +1,6 @@
 -- Each field is raised by a multiple of its divisor, so quotient and remainder are the floor's.
 use borrow.Author.Needs.{needs}
-use native.Mathlib.Omega.{arith}
-use mathlib.Core.Path.{_≡_, refl, sym, _∙_, ap}
+use mathlib.Core.Path.{sym, _∙_}
 use mir.Facts.{toZ-ofZ}
 use Rattle.iso_time.proofs.Times.{balance-is}
 use Rattle.iso_time.proofs.inner.balance.Statement.{statement}

@@ -1,7 +1,6 @@
 -- Milliseconds, microseconds and nanoseconds, in one sum.
 use borrow.Author.Needs.{needs}
 use native.Mathlib.Omega.{arith}
-use mathlib.Core.Path.{_≡_, refl, sym, _∙_, ap}
 use Rattle.iso_time.proofs.Times.{read-valid}
 use Rattle.iso_time.proofs.inner.below_second.Statement.{statement}
 use Rattle.iso_time.proofs.inner.below_second.Tie as tie

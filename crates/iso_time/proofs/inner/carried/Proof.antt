@@ -1,7 +1,7 @@
 -- Below a day no day is over, else one.
 use borrow.Author.Needs.{needs}
 use native.Mathlib.Omega.{arith}
-use mathlib.Core.Path.{_≡_, refl, sym, _∙_, ap}
+use mathlib.Core.Path.{ap}
 use lib.IntN.{pos}
 use Rattle.iso_time.proofs.inner.carried.Statement.{statement}
 use Rattle.iso_time.proofs.inner.carried.Tie as tie

@@ -1,6 +1,5 @@
 -- By the table of dividends.
 use borrow.Author.Needs.{needs}
-use mathlib.Core.Path.{_≡_, refl, sym, _∙_, ap}
 use Rattle.iso_time.specs.Proposal.{dividend}
 use Rattle.iso_time.proofs.inner.dividend_of.Statement.{statement}
 use Rattle.iso_time.proofs.inner.dividend_of.Tie as tie

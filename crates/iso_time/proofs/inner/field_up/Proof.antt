@@ -1,8 +1,8 @@
 -- A field within its bound lies within the bias.
 use native.Mathlib.Omega.{arith}
-use mathlib.Core.Path.{_≡_, refl, sym, _∙_, ap}
+use mathlib.Core.Path.{sym, _∙_}
 use mir.Facts.{toZ-ofZ}
-use Rattle.whole.proofs.Laws.{ints, read-diff, range-of}
+use Rattle.whole.proofs.Laws.{ints, read-diff}
 use Prim.Native.Nat.{_^_}
 use Rattle.iso_time.specs.Inner.{fieldBias}
 use Rattle.iso_time.proofs.Times.{size-of}

@@ -1,7 +1,5 @@
 -- Day allows 1; the others their proper divisors.
 use borrow.Author.Needs.{needs}
-use native.Mathlib.Omega.{arith}
-use mathlib.Core.Path.{_≡_, refl, sym, _∙_, ap}
 use Rattle.iso_time.proofs.Checks.{day-increment, no-increment, large-increment, small-increment}
 use Rattle.iso_time.proofs.inner.is_increment.Statement.{statement}
 use Rattle.iso_time.proofs.inner.is_increment.Tie as tie

@@ -1,7 +1,6 @@
 -- By the table of lengths.
 use borrow.Author.Needs.{needs}
 use native.Mathlib.Omega.{arith}
-use mathlib.Core.Path.{_≡_, refl, sym, _∙_, ap}
 use Rattle.iso_time.specs.Proposal.{unitLength}
 use Rattle.iso_time.proofs.inner.length_of.Statement.{statement}
 use Rattle.iso_time.proofs.inner.length_of.Tie as tie

@@ -1,7 +1,6 @@
 -- Hours, minutes and so on down to nanoseconds, in one sum.
 use borrow.Author.Needs.{needs}
 use native.Mathlib.Omega.{arith}
-use mathlib.Core.Path.{_≡_, refl, sym, _∙_, ap}
 use Rattle.iso_time.specs.Proposal.{nanoseconds}
 use Rattle.iso_time.proofs.Times.{read-valid, below-day}
 use Rattle.iso_time.proofs.inner.nanoseconds_of.Statement.{statement}

@@ -1,7 +1,7 @@
 -- By the unit: its field and all below it.
 use borrow.Author.Needs.{needs}
 use native.Mathlib.Omega.{arith}
-use mathlib.Core.Path.{_≡_, refl, sym, _∙_, ap}
+use mathlib.Core.Path.{refl}
 use Rattle.iso_time.specs.Proposal.{quantity, nanoseconds}
 use Rattle.iso_time.proofs.inner.quantity_of.Statement.{statement}
 use Rattle.iso_time.proofs.inner.quantity_of.Tie as tie

@@ -1,8 +1,6 @@
 -- The step is at most a day, so the sum is below two; what comes out is the definition's.
 use borrow.Author.Needs.{needs}
 use native.Mathlib.Omega.{arith}
-use mathlib.Core.Path.{_≡_, refl, sym, _∙_, ap}
-use mir.Val.{Fits}
 use Rattle.iso_time.proofs.Times.{read-valid, below-day}
 use Rattle.iso_time.proofs.Rounding.{allowed, step-some, quantity-le, below-two, round-is}
 use Rattle.iso_time.proofs.inner.round.Statement.{statement}

@@ -1,6 +1,6 @@
 -- Forward or back, the size is divided once and the sign given back.
 use borrow.Author.Needs.{needs}
-use mathlib.Core.Path.{_≡_, refl, sym, _∙_, ap}
+use mathlib.Core.Path.{_∙_}
 use mir.Facts.{toZ-ofZ}
 use Rattle.iso_time.proofs.Checks.{span-forward, span-back}
 use Rattle.iso_time.proofs.inner.span.Statement.{statement}

@@ -1,6 +1,5 @@
 -- Quotients and remainders of the one number.
 use borrow.Author.Needs.{needs}
-use mathlib.Core.Path.{_≡_, refl, sym, _∙_, ap}
 use Rattle.iso_time.proofs.Times.{time-at-is}
 use Rattle.iso_time.proofs.inner.time_at.Statement.{statement}
 use Rattle.iso_time.proofs.inner.time_at.Tie as tie

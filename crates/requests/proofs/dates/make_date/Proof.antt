@@ -2,23 +2,16 @@
 use borrow.Author.Needs.{needs}
 use native.Mathlib.Omega.{arith}
 use mathlib.Core.Path.{_≡_, refl, sym, _∙_, ap}
-use mir.Facts.{toZ-ofZ, toZ-pos, sfits-widen}
-use mir.Syntax.{w32, w64}
-use mir.Val.{toZ, ofZ, SFits}
-use mathlib.Core.List.{[], _∷_}
-use lib.IntN.{ℤ, pos}
-use Prim.Native.Nat.{ℕ, _<_, _^_}
-use mathlib.Core.List.{List}
+use mir.Syntax.{w32}
+use mir.Val.{toZ, ofZ}
 use Rattle.refusal.specs.Answer.{Answer}
 use Rattle.lines.specs.Text.{fields}
-use Rattle.lines.specs.Meaning.{ofSigned, ofNatural}
-use Rattle.requests.specs.Protocol.{said, answer, Reply}
-use Rattle.requests.specs.Calls.{values, dateValues, yearMonthValues, dateKinds, meaningOf, overflowOf}
-use Rattle.requests.specs.Meaning.{readAs, ofInt, ofByte, ofOverflowField, ofDateFields}
-use Rattle.requests.proofs.Laws.{says-as, no-reply, bad-reply, good-reply, collect-fails, collect-fails-later, collect-more, collect-end, group-fails, group-then-fails, group-then, overflow-back}
-use Rattle.iso_date.specs.Paper.{ofDate, regulateDate, makeDate}
+use Rattle.requests.specs.Protocol.{said}
+use Rattle.requests.specs.Calls.{values, dateValues, dateKinds, meaningOf}
+use Rattle.requests.specs.Meaning.{readAs, ofOverflowField, ofDateFields}
+use Rattle.requests.proofs.Laws.{says-as, no-reply, bad-reply, good-reply, collect-fails, collect-more, collect-end, group-fails, group-then-fails, group-then, overflow-back}
+use Rattle.iso_date.specs.Paper.{makeDate}
 use Rattle.iso_date.specs.declared.IsoDate.{IsoDate}
-use Rattle.options.specs.declared.Overflow.{Overflow}
 use Rattle.requests.specs.declared.Call.the-variants.{MakeDate}
 use Rattle.requests.proofs.dates.make_date.Statement.{statement}
 use Rattle.requests.proofs.dates.make_date.Tie as tie

@@ -2,21 +2,17 @@
 use borrow.Author.Needs.{needs}
 use native.Mathlib.Omega.{arith}
 use mathlib.Core.Path.{_≡_, refl, sym, _∙_, ap}
-use mir.Facts.{toZ-ofZ, toZ-pos, sfits-widen}
-use mir.Syntax.{w32, w64}
-use mir.Val.{toZ, ofZ, SFits}
+use mir.Syntax.{w32}
+use mir.Val.{toZ, ofZ}
 use mathlib.Core.List.{[], _∷_}
-use lib.IntN.{ℤ, pos}
-use Prim.Native.Nat.{ℕ, _<_, _^_}
-use mathlib.Core.List.{List}
+use lib.IntN.{pos}
+use Prim.Native.Nat.{ℕ}
 use Rattle.refusal.specs.Answer.{Answer}
 use Rattle.lines.specs.Text.{fields}
-use Rattle.lines.specs.Meaning.{ofSigned, ofNatural}
-use Rattle.requests.specs.Protocol.{said, answer, Reply}
-use Rattle.requests.specs.Calls.{values, dateValues, yearMonthValues, dateKinds, meaningOf, overflowOf}
-use Rattle.requests.specs.Meaning.{readAs, ofInt, ofByte, ofOverflowField, ofDateFields}
-use Rattle.requests.proofs.Laws.{says-as, no-reply, bad-reply, good-reply, collect-fails, collect-fails-later, collect-more, collect-end, group-fails, group-then-fails, group-then, overflow-back}
-use Rattle.iso_date.specs.Paper.{ofMonthLength, monthLength}
+use Rattle.requests.specs.Protocol.{said}
+use Rattle.requests.specs.Calls.{values, meaningOf}
+use Rattle.requests.specs.Meaning.{readAs, ofInt, ofByte}
+use Rattle.requests.proofs.Laws.{says-as, no-reply, bad-reply, good-reply, collect-fails, collect-fails-later, collect-more, collect-end}
 use Rattle.requests.specs.declared.Call.the-variants.{MonthLength}
 use Rattle.requests.proofs.dates.month_length.Statement.{statement}
 use Rattle.requests.proofs.dates.month_length.Tie as tie

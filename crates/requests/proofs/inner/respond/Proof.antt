@@ -1,6 +1,5 @@
 -- An empty line for an empty line, the reply's text for any other.
 use borrow.Author.Needs.{needs}
-use mathlib.Core.Path.{_≡_, refl, sym, _∙_, ap}
 use Rattle.requests.proofs.Laws.{empty-response, answer-response, question-response, wrote-as}
 use Rattle.requests.proofs.inner.respond.Statement.{statement}
 use Rattle.requests.proofs.inner.respond.Tie as tie

@@ -1,12 +1,9 @@
 -- A natural up to 255 is one of 8 bits.
 use borrow.Author.Needs.{needs}
 use native.Mathlib.Omega.{arith}
-use mathlib.Core.Path.{_≡_, refl, sym, _∙_, ap}
-use mir.Facts.{toZ-ofZ, sfits-widen}
-use mir.Syntax.{w32, w64}
-use mir.Val.{toZ, ofZ, SFits}
+use mathlib.Core.Path.{sym, _∙_, ap}
 use Rattle.whole.proofs.Laws.{ints}
-use Rattle.lines.specs.Meaning.{ofSigned, ofNatural}
+use Rattle.lines.specs.Meaning.{ofNatural}
 use Rattle.requests.specs.Meaning.{readAs}
 use Rattle.requests.proofs.Laws.{within-range}
 use Rattle.requests.proofs.read.byte_at.Statement.{statement}

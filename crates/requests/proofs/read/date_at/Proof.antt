@@ -1,11 +1,8 @@
 -- Three fields, each a number of its type, in turn.
 use borrow.Author.Needs.{needs}
-use mathlib.Core.Path.{_≡_, refl, sym, _∙_, ap}
+use mathlib.Core.Path.{_≡_, sym, _∙_, ap}
 use mir.Syntax.{w32}
 use mir.Val.{toZ, ofZ}
-use lib.IntN.{ℤ}
-use mathlib.Core.List.{List, _∷_}
-use Rattle.requests.specs.Protocol.{these}
 use Rattle.requests.specs.Meaning.{ofInt, ofByte}
 use Rattle.requests.proofs.Laws.{collect-fails, collect-fails-later, collect-more, collect-end, two-on}
 use Rattle.requests.proofs.read.date_at.Statement.{statement}

@@ -1,14 +1,13 @@
 -- A number from -2^31 to 2^31 - 1 is one of 32 bits.
 use borrow.Author.Needs.{needs}
 use native.Mathlib.Omega.{arith}
-use mathlib.Core.Path.{_≡_, refl, sym, _∙_, ap}
-use mir.Facts.{toZ-ofZ, sfits-widen}
-use mir.Syntax.{w32, w64}
-use mir.Val.{toZ, ofZ, SFits}
-use lib.IntN.{ℤ}
+use mathlib.Core.Path.{_≡_, sym, _∙_, ap}
+use mir.Facts.{toZ-ofZ}
+use mir.Syntax.{w64}
+use mir.Val.{toZ, ofZ}
 use Rattle.whole.proofs.Laws.{ints, range-of}
 use Rattle.lines.specs.Text.{number}
-use Rattle.lines.specs.Meaning.{ofSigned, ofNatural}
+use Rattle.lines.specs.Meaning.{ofSigned}
 use Rattle.requests.specs.Meaning.{readAs}
 use Rattle.requests.proofs.Laws.{within-range}
 use Rattle.requests.proofs.read.int_at.Statement.{statement}

@@ -1,7 +1,7 @@
 -- A number from 0 to 8 is a place in the table of the modes.
 use borrow.Author.Needs.{needs}
 use native.Mathlib.Omega.{arith}
-use mathlib.Core.Path.{_≡_, refl, sym, _∙_, ap}
+use mathlib.Core.Path.{sym, _∙_, ap}
 use lib.IntN.{pos}
 use Rattle.whole.proofs.Laws.{ints}
 use Rattle.lines.specs.Text.{number}

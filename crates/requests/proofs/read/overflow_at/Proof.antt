@@ -1,12 +1,12 @@
 -- Of 0 and 1, 0 is constrain and 1 is reject.
 use borrow.Author.Needs.{needs}
 use native.Mathlib.Omega.{arith}
-use mathlib.Core.Path.{_≡_, refl, sym, _∙_, ap}
-use lib.IntN.{ℤ, pos}
+use mathlib.Core.Path.{_≡_, sym, _∙_, ap}
+use lib.IntN.{pos}
 use Prim.Native.Nat.{ℕ}
 use Rattle.whole.proofs.Laws.{ints}
 use Rattle.lines.specs.Text.{number}
-use Rattle.lines.specs.Meaning.{ofSigned, ofNatural}
+use Rattle.lines.specs.Meaning.{ofNatural}
 use Rattle.requests.specs.Meaning.{readAs}
 use Rattle.requests.proofs.Laws.{within-range}
 use Rattle.requests.proofs.read.overflow_at.Statement.{statement}

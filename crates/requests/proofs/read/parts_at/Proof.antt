@@ -1,6 +1,6 @@
 -- Six numbers of 64 bits in turn.
 use borrow.Author.Needs.{needs}
-use mathlib.Core.Path.{_≡_, refl, sym, _∙_, ap}
+use mathlib.Core.Path.{_≡_, sym, _∙_, ap}
 use mir.Syntax.{w64}
 use mir.Val.{toZ, ofZ}
 use Rattle.lines.specs.Meaning.{ofSigned}

@@ -1,7 +1,7 @@
 -- A natural up to 65,535 is one of 16 bits.
 use borrow.Author.Needs.{needs}
 use native.Mathlib.Omega.{arith}
-use mathlib.Core.Path.{_≡_, refl, sym, _∙_, ap}
+use mathlib.Core.Path.{sym, _∙_, ap}
 use Rattle.whole.proofs.Laws.{ints}
 use Rattle.lines.specs.Meaning.{ofNatural}
 use Rattle.requests.specs.Meaning.{readAs}

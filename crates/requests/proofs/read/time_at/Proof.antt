@@ -1,6 +1,6 @@
 -- Six fields, each a number of its type, in turn.
 use borrow.Author.Needs.{needs}
-use mathlib.Core.Path.{_≡_, refl, sym, _∙_, ap}
+use mathlib.Core.Path.{sym, _∙_, ap}
 use Rattle.requests.specs.Meaning.{ofByte, ofShort}
 use Rattle.requests.proofs.Laws.{collect-fails, collect-fails-later, collect-more, collect-end, two-on, three-on, four-on, five-on}
 use Rattle.requests.proofs.read.time_at.Statement.{statement}

@@ -1,7 +1,7 @@
 -- A number from 0 to 9 is a place in the table of the units.
 use borrow.Author.Needs.{needs}
 use native.Mathlib.Omega.{arith}
-use mathlib.Core.Path.{_≡_, refl, sym, _∙_, ap}
+use mathlib.Core.Path.{sym, _∙_, ap}
 use lib.IntN.{pos}
 use Rattle.whole.proofs.Laws.{ints}
 use Rattle.lines.specs.Text.{number}

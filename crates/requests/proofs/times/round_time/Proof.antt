@@ -1,7 +1,8 @@
 -- The count of fields, each field in turn, and the call; whatever fails is no request.
+use Rattle.options.specs.declared.Unit.{Unit as TimeUnit}
 use borrow.Author.Needs.{needs}
 use native.Mathlib.Omega.{arith}
-use mathlib.Core.Path.{_≡_, refl, sym, _∙_, ap}
+use mathlib.Core.Path.{refl, sym, _∙_, ap}
 use Rattle.refusal.specs.Answer.{Answer}
 use Rattle.lines.specs.Text.{fields}
 use Rattle.lines.specs.Meaning.{ofNatural}
@@ -12,7 +13,6 @@ use Rattle.requests.proofs.Laws.{bad-reply, collect-end, collect-fails,
 use Rattle.iso_time.specs.Paper.{roundedTime}
 use Rattle.iso_time.specs.declared.BalancedTime.{BalancedTime}
 use mathlib.Core.Path.{ap₂}
-use Rattle.options.specs.declared.Unit.{Unit as TimeUnit}
 use Rattle.rounding.specs.declared.RoundingMode.{RoundingMode}
 use Rattle.requests.specs.declared.Call.the-variants.{RoundTime}
 use Rattle.requests.proofs.times.round_time.Statement.{statement}

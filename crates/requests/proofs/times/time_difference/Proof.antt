@@ -1,7 +1,7 @@
 -- The count of fields, each field in turn, and the call; whatever fails is no request.
 use borrow.Author.Needs.{needs}
 use native.Mathlib.Omega.{arith}
-use mathlib.Core.Path.{_≡_, refl, sym, _∙_, ap}
+use mathlib.Core.Path.{refl, sym, _∙_, ap}
 use Rattle.refusal.specs.Answer.{Answer}
 use Rattle.lines.specs.Text.{fields}
 use Rattle.requests.specs.Protocol.{said}

@@ -1,17 +1,15 @@
 -- A date is three values, a refusal its number.
 use borrow.Author.Needs.{needs}
 use native.Mathlib.Omega.{arith}
-use mathlib.Core.Path.{_≡_, refl, sym, _∙_, ap}
+use mathlib.Core.Path.{_≡_, sym, _∙_, ap}
 use mir.Facts.{toZ-ofZ, toZ-pos, sfits-widen}
 use mir.Syntax.{w32, w64}
-use mir.Val.{toZ, ofZ, SFits}
-use mathlib.Core.List.{[], _∷_}
-use lib.IntN.{ℤ, pos}
-use Prim.Native.Nat.{ℕ, _<_, _^_}
+use mir.Val.{toZ, ofZ}
+use Prim.Native.Nat.{_<_, _^_}
 use Rattle.iso_date.specs.declared.DateResult.{DateResult}
 use Rattle.iso_date.specs.Paper.{ofDate}
-use Rattle.requests.specs.Protocol.{said, answer, Reply}
-use Rattle.requests.specs.Calls.{values, dateValues, yearMonthValues}
+use Rattle.requests.specs.Protocol.{said}
+use Rattle.requests.specs.Calls.{values, dateValues}
 use Rattle.requests.proofs.Laws.{says-as, three-same}
 use Rattle.requests.proofs.written.date_reply.Statement.{statement}
 use Rattle.requests.proofs.written.date_reply.Tie as tie

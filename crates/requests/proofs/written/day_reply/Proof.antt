@@ -1,16 +1,14 @@
 -- A day is one value, a refusal its number.
 use borrow.Author.Needs.{needs}
-use mathlib.Core.Path.{_≡_, refl, sym, _∙_, ap}
-use mir.Facts.{toZ-ofZ, toZ-pos, sfits-widen}
-use mir.Syntax.{w32, w64}
-use mir.Val.{toZ, ofZ, SFits}
+use mathlib.Core.Path.{_≡_, sym, _∙_, ap}
+use mir.Syntax.{w64}
+use mir.Val.{toZ, ofZ}
 use mathlib.Core.List.{[], _∷_}
-use lib.IntN.{ℤ, pos}
-use Prim.Native.Nat.{ℕ, _<_, _^_}
+use lib.IntN.{ℤ}
 use Rattle.iso_date.specs.declared.DayResult.{DayResult}
 use Rattle.iso_date.specs.Paper.{ofDay}
-use Rattle.requests.specs.Protocol.{said, answer, Reply}
-use Rattle.requests.specs.Calls.{values, dateValues, yearMonthValues}
+use Rattle.requests.specs.Protocol.{said, answer}
+use Rattle.requests.specs.Calls.{values}
 use Rattle.requests.proofs.Laws.{says-as}
 use Rattle.requests.proofs.written.day_reply.Statement.{statement}
 use Rattle.requests.proofs.written.day_reply.Tie as tie

@@ -1,11 +1,11 @@
 -- Within the limits is an answer without values, a refusal is its number.
 use borrow.Author.Needs.{needs}
-use mathlib.Core.Path.{_≡_, refl, sym, _∙_, ap}
-use mathlib.Core.List.{[], _∷_}
+use mathlib.Core.Path.{sym, ap}
+use mathlib.Core.List.{[]}
 use Rattle.iso_date.specs.declared.LimitResult.{LimitResult}
 use Rattle.iso_date.specs.Paper.{ofLimit}
-use Rattle.requests.specs.Protocol.{said, answer, Reply}
-use Rattle.requests.specs.Calls.{values, dateValues, yearMonthValues}
+use Rattle.requests.specs.Protocol.{said}
+use Rattle.requests.specs.Calls.{values}
 use Rattle.requests.proofs.Laws.{says-as}
 use Rattle.requests.proofs.written.limit_reply.Statement.{statement}
 use Rattle.requests.proofs.written.limit_reply.Tie as tie

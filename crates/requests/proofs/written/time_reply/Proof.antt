@@ -1,6 +1,6 @@
 -- The values of an answer, or a refusal's number.
 use borrow.Author.Needs.{needs}
-use mathlib.Core.Path.{_≡_, refl, sym, _∙_, ap}
+use mathlib.Core.Path.{sym, ap}
 use Rattle.iso_time.specs.declared.TimeResult.{TimeResult}
 use Rattle.iso_time.specs.Paper.{ofTime}
 use Rattle.requests.specs.Protocol.{said}

@@ -1,7 +1,7 @@
 -- Six values, none of which changes by the cast.
 use borrow.Author.Needs.{needs}
 use native.Mathlib.Omega.{arith}
-use mathlib.Core.Path.{_≡_, refl, sym, _∙_, ap}
+use mathlib.Core.Path.{ap}
 use mir.Facts.{toZ-pos}
 use mir.Syntax.{w64}
 use Prim.Native.Nat.{_<_, _^_}

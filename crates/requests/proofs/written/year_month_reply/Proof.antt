@@ -1,15 +1,11 @@
 -- A year and a month are two values.
 use borrow.Author.Needs.{needs}
 use native.Mathlib.Omega.{arith}
-use mathlib.Core.Path.{_≡_, refl, sym, _∙_, ap}
+use mathlib.Core.Path.{_≡_, _∙_}
 use mir.Facts.{toZ-ofZ, toZ-pos, sfits-widen}
 use mir.Syntax.{w32, w64}
-use mir.Val.{toZ, ofZ, SFits}
-use mathlib.Core.List.{[], _∷_}
-use lib.IntN.{ℤ, pos}
-use Prim.Native.Nat.{ℕ, _<_, _^_}
-use Rattle.requests.specs.Protocol.{said, answer, Reply}
-use Rattle.requests.specs.Calls.{values, dateValues, yearMonthValues}
+use mir.Val.{toZ, ofZ}
+use Prim.Native.Nat.{_<_, _^_}
 use Rattle.requests.proofs.Laws.{two-same}
 use Rattle.requests.proofs.written.year_month_reply.Statement.{statement}
 use Rattle.requests.proofs.written.year_month_reply.Tie as tie

@@ -1,7 +1,6 @@
 -- The cell at the mode's row and the sign's column.
 use borrow.Author.Needs.{needs}
 use native.Mathlib.Omega.{arith}
-use mathlib.Core.Path.{_≡_, refl, sym, _∙_, ap}
 use Rattle.rounding.proofs.Rounds.{row-small, column-small, cell}
 use Rattle.rounding.proofs.inner.get_unsigned_round_mode.Statement.{statement}
 use Rattle.rounding.proofs.inner.get_unsigned_round_mode.Tie as tie

@@ -1,7 +1,6 @@
 -- The lower multiple, or the next where there is room for it.
 use borrow.Author.Needs.{needs}
 use native.Mathlib.Omega.{arith}
-use mathlib.Core.Path.{_≡_, refl, sym, _∙_, ap}
 use borrow.Author.Tests.{not-true, not-false}
 use Rattle.rounding.proofs.Rounds.{not-up, went-up, past-up}
 use Rattle.rounding.proofs.inner.multiple.Statement.{statement}

@@ -1,5 +1,4 @@
 -- A tie goes up where the lower multiple is odd.
-use mathlib.Core.Path.{_≡_, refl, sym, _∙_, ap}
 use Rattle.rounding.proofs.inner.past_half_or_odd.Statement.{statement}
 use Rattle.rounding.proofs.inner.past_half_or_odd.Tie as tie
 

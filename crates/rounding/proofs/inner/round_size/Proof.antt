@@ -1,7 +1,7 @@
 -- The lower multiple is the quotient times the step; what is left decides.
 use borrow.Author.Needs.{needs}
 use native.Mathlib.Omega.{arith}
-use mathlib.Core.Path.{_≡_, refl, sym, _∙_, ap}
+use mathlib.Core.Path.{_∙_}
 use Rattle.rounding.proofs.Rounds.{lower-le, left-lt, size-chosen}
 use Rattle.rounding.proofs.inner.round_size.Statement.{statement}
 use Rattle.rounding.proofs.inner.round_size.Tie as tie

@@ -1,7 +1,7 @@
 -- The floor of a negative number is the larger size, so the choice and the distances change places.
 use borrow.Author.Needs.{needs}
 use native.Mathlib.Omega.{arith}
-use mathlib.Core.Path.{_≡_, refl, sym, _∙_, ap}
+use mathlib.Core.Path.{_∙_}
 use Rattle.rounding.proofs.Rounds.{lower-le, left-lt, below-chosen-exact, below-chosen}
 use Rattle.rounding.proofs.inner.round_size_below.Statement.{statement}
 use Rattle.rounding.proofs.inner.round_size_below.Tie as tie

@@ -1,6 +1,6 @@
 -- An exact multiple stays; otherwise the rule decides by the two distances.
 use borrow.Author.Needs.{needs}
-use mathlib.Core.Path.{_≡_, refl, sym, _∙_, ap}
+use mathlib.Core.Path.{sym, _∙_}
 use Rattle.rounding.proofs.Rounds.{takes-none, takes-rule}
 use Rattle.rounding.proofs.inner.takes_up.Statement.{statement}
 use Rattle.rounding.proofs.inner.takes_up.Tie as tie

@@ -1,6 +1,4 @@
-use mir.Facts.{toZ-ofZ, toZ-pos, sfits-widen}
-use mir.Syntax.{w32, w64}
-use mathlib.Core.Path.{_≡_, sym, _∙_}
+use mir.Facts.{toZ-ofZ}
 use Rattle.whole.proofs.Edges.{as-nat, above-is}
 use Rattle.whole.proofs.inner.above.Statement.{statement}
 use Rattle.whole.proofs.inner.above.Tie as tie

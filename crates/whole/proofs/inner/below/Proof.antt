@@ -1,6 +1,4 @@
-use mir.Facts.{toZ-ofZ, toZ-pos, sfits-widen}
-use mir.Syntax.{w32, w64}
-use mathlib.Core.Path.{_≡_, sym, _∙_}
+use mir.Facts.{toZ-ofZ}
 use Rattle.whole.proofs.Edges.{as-nat, below-low, below-fits, below-is, below-top}
 use Rattle.whole.proofs.inner.below.Statement.{statement}
 use Rattle.whole.proofs.inner.below.Tie as tie

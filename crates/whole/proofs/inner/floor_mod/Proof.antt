@@ -1,7 +1,6 @@
 use borrow.Author.Needs.{needs}
-use mir.Facts.{toZ-ofZ, toZ-pos, sfits-widen}
-use mir.Syntax.{w32, w64}
-use mathlib.Core.Path.{_≡_, sym, _∙_}
+use mir.Facts.{toZ-ofZ}
+use mathlib.Core.Path.{sym, _∙_}
 use Rattle.whole.proofs.Edges.{small-mod, fmod-above, fmod-below}
 use Rattle.whole.proofs.Laws.{ints}
 use native.Mathlib.Omega.{arith}

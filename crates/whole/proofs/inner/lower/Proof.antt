@@ -1,7 +1,6 @@
 use borrow.Author.Needs.{needs}
-use mir.Facts.{toZ-ofZ, toZ-pos, sfits-widen}
-use mir.Syntax.{w32, w64}
-use mathlib.Core.Path.{_≡_, sym, _∙_}
+use mir.Facts.{toZ-ofZ, toZ-pos}
+use mir.Syntax.{w64}
 use Rattle.whole.proofs.Edges.{lowered-is, lowered-fits}
 use Rattle.whole.proofs.inner.lower.Statement.{statement}
 use Rattle.whole.proofs.inner.lower.Tie as tie

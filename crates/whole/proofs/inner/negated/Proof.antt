@@ -1,6 +1,6 @@
 -- 0 is its own negative; below it a size n is n - 1 below -1.
 use borrow.Author.Needs.{needs}
-use mathlib.Core.Path.{_≡_, refl, sym, _∙_, ap}
+use mathlib.Core.Path.{sym, _∙_, ap}
 use mir.Facts.{toZ-ofZ}
 use lib.IntN.{pos, negℤ}
 use Prim.Native.Nat.{ℕ}

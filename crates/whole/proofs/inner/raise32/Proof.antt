@@ -1,7 +1,6 @@
 use borrow.Author.Needs.{needs}
 use mir.Facts.{toZ-ofZ, toZ-pos, sfits-widen}
-use mir.Syntax.{w32, w64}
-use mathlib.Core.Path.{_≡_, sym, _∙_}
+use mir.Syntax.{w64}
 use Rattle.whole.proofs.Edges.{raised-low, raised-is, raised-fits, raised-top, as-nat, low32, high32, high32-64, raised32-low}
 use Prim.Native.Nat.{_<_, _^_}
 use native.Mathlib.Omega.{arith}

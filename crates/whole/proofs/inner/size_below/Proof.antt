@@ -1,7 +1,7 @@
 -- A number n below -1 has the size n + 1.
 use borrow.Author.Needs.{needs}
 use native.Mathlib.Omega.{arith}
-use mathlib.Core.Path.{_≡_, refl, sym, _∙_, ap}
+use mathlib.Core.Path.{sym, _∙_}
 use mir.Facts.{toZ-ofZ}
 use Rattle.whole.proofs.Edges.{size-is}
 use Rattle.whole.proofs.inner.size_below.Statement.{statement}
