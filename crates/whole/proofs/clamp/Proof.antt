@@ -1,3 +1,4 @@
+-- Below, above or between the bounds.
 use mir.Facts.{toZ-ofZ}
 use mathlib.Core.Path.{_∙_}
 use Rattle.whole.proofs.Edges.{clamp-low, clamp-high, clamp-same}

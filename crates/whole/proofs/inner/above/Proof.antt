@@ -1,3 +1,4 @@
+-- A number not below zero is its own size.
 use mir.Facts.{toZ-ofZ}
 use Rattle.whole.proofs.Edges.{as-nat, above-is}
 use Rattle.whole.proofs.inner.above.Statement.{statement}

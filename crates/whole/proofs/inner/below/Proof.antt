@@ -1,3 +1,4 @@
+-- How far a number lies below -1.
 use mir.Facts.{toZ-ofZ}
 use Rattle.whole.proofs.Edges.{as-nat, below-low, below-fits, below-is, below-top}
 use Rattle.whole.proofs.inner.below.Statement.{statement}

@@ -1,3 +1,4 @@
+-- Below zero the quotient is counted down from -1.
 use borrow.Author.Needs.{needs}
 use mir.Facts.{toZ-ofZ}
 use mathlib.Core.Path.{sym, _∙_}

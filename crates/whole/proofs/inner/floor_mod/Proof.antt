@@ -1,3 +1,4 @@
+-- Below zero the remainder is counted from the other end.
 use borrow.Author.Needs.{needs}
 use mir.Facts.{toZ-ofZ}
 use mathlib.Core.Path.{sym, _∙_}

@@ -1,3 +1,4 @@
+-- A natural lowered by the bias, into 32 bits.
 use borrow.Author.Needs.{needs}
 use mir.Facts.{toZ-ofZ, toZ-pos}
 use mir.Syntax.{w64}

@@ -1,3 +1,4 @@
+-- The number that lies so far below -1.
 use borrow.Author.Needs.{needs}
 use mir.Facts.{toZ-ofZ, toZ-pos}
 use mir.Syntax.{w64}

@@ -1,3 +1,4 @@
+-- A natural that fits is itself.
 use borrow.Author.Needs.{needs}
 use mir.Facts.{toZ-pos}
 use mir.Syntax.{w64}

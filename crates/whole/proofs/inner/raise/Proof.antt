@@ -1,3 +1,4 @@
+-- A number raised by the bias.
 use borrow.Author.Needs.{needs}
 use mir.Facts.{toZ-ofZ, toZ-pos}
 use mir.Syntax.{w64}

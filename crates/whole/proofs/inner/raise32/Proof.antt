@@ -1,3 +1,4 @@
+-- A number of 32 bits raised by the bias.
 use borrow.Author.Needs.{needs}
 use mir.Facts.{toZ-ofZ, toZ-pos, sfits-widen}
 use mir.Syntax.{w64}
