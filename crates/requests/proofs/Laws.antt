@@ -22,8 +22,10 @@ use Rattle.rounding.specs.declared.RoundingMode.{RoundingMode}
 use Rattle.rounding.specs.declared.RoundingMode.the-variants as M
 use Rattle.iso_time.specs.declared.IsoTime.{IsoTime}
 use Rattle.requests.specs.Protocol.{bytes, sameBytes, Kind, Arguments, these, noArguments, also, arguments, Reply, question, answer, said, replyText}
-use Rattle.requests.specs.Calls.{units, modes, unitOf, modeOf, timeValues, nameOf, callIn, everyCall, isKnown, kindsOf, meaningOf, replyOf, replyTo, responseTo, overflowOf}
-use Rattle.requests.specs.Meaning.{Says, readAs, collect, overflowNumber, unitNumber, modeNumber}
+use Rattle.requests.specs.Calls.{units, modes, unitOf, modeOf, timeValues, partAt, nameOf, callIn, everyCall, isKnown, kindsOf, meaningOf, replyOf, replyTo, responseTo, overflowOf}
+use Rattle.requests.specs.Meaning.{Says, readAs, collect, overflowNumber, unitNumber, modeNumber, choiceValues}
+use Rattle.date_duration.specs.declared.Part.the-variants.{Kept, Given}
+use Rattle.requests.specs.declared.read.Choice.{Choice}
 use Rattle.requests.specs.declared.Call.{Call}
 use Rattle.requests.specs.declared.Call.the-variants.{Unknown}
 use Rattle.requests.specs.declared.written.Written.{Written}
@@ -189,6 +191,18 @@ mode-number (suc (suc (suc (suc (suc (suc zero)))))) h = refl
 mode-number (suc (suc (suc (suc (suc (suc (suc zero))))))) h = refl
 mode-number (suc (suc (suc (suc (suc (suc (suc (suc zero)))))))) h = refl
 mode-number (suc (suc (suc (suc (suc (suc (suc (suc (suc n))))))))) h = let f : ⊥ = omega arith in absurd f
+
+pub flag-number : (n : ℕ) → n ≤ 1 → cond (eqb n 1) 1 0 ≡ n
+flag-number zero h = refl
+flag-number (suc zero) h = refl
+flag-number (suc (suc n)) h = let f : ⊥ = omega arith in absurd f
+
+module _ (c : Choice) (z : ℤ) where
+  pub part-given : c .given ≡ true → z ≡ c .number → Given z ≡ partAt (choiceValues c) 0
+  part-given e f = rw (e, f)
+
+  pub part-kept : c .given ≡ false → Kept ≡ partAt (choiceValues c) 0
+  part-kept e = rw e
 
 -- the field two on is the one after the next, and so on
 module _ (k : Kind) (fs : List (List ℕ)) (i : ℕ) where

@@ -5,7 +5,7 @@ use mathlib.Core.Bool.{Bool, cond, not}
 use mathlib.Core.List.{List, [], _∷_, _++_}
 use lib.Dec.{eqb}
 use lib.ListN.{getD, drop}
-use lib.IntN.{ℤ, pos, natAbs}
+use lib.IntN.{ℤ, pos, negℤ, natAbs}
 use Rattle.refusal.specs.Answer.{Answer, given, refused}
 use Rattle.lines.specs.Text.{fields, newline}
 use Rattle.iso_date.specs.Proposal.{date}
@@ -20,6 +20,13 @@ use Rattle.iso_time.specs.declared.TimeDuration.{TimeDuration}
 use Rattle.rounding.specs.Paper.{roundNumber, roundNumberAsIfPositive}
 use Rattle.rounding.specs.declared.RoundingMode.{RoundingMode}
 use Rattle.rounding.specs.declared.RoundingMode.the-variants as M
+use Rattle.date_duration.specs.Proposal.{duration}
+use Rattle.date_duration.specs.Paper.{newDuration, durationSign, durationAbs, durationNegated, durationAdjust}
+use Rattle.date_duration.specs.declared.DateDuration.{DateDuration}
+use Rattle.date_duration.specs.declared.Sign.{Sign}
+use Rattle.date_duration.specs.declared.Sign.the-variants as S
+use Rattle.date_duration.specs.declared.Part.{Part}
+use Rattle.date_duration.specs.declared.Part.the-variants as P
 use Rattle.options.specs.declared.Overflow.{Overflow}
 use Rattle.options.specs.declared.Overflow.the-variants.{Constrain, Reject}
 use Rattle.options.specs.declared.Unit.{Unit as TimeUnit}
@@ -45,6 +52,11 @@ nameOf C.TimeDifference = "time_difference"
 nameOf C.RoundNumber = "round_number"
 nameOf C.RoundNumberAsIfPositive = "round_number_as_if_positive"
 nameOf C.RoundTime = "round_time"
+nameOf C.DurationNew = "duration_new"
+nameOf C.DurationSign = "duration_sign"
+nameOf C.DurationAbs = "duration_abs"
+nameOf C.DurationNegated = "duration_negated"
+nameOf C.DurationAdjust = "duration_adjust"
 nameOf C.Unknown = ""
 
 abbrev pub dateCalls : List Call
@@ -54,8 +66,11 @@ dateCalls =
 abbrev pub timeCalls : List Call
 timeCalls = C.RegulateTime ∷ C.BalanceTime ∷ C.TimeDifference ∷ C.RoundNumber ∷ C.RoundNumberAsIfPositive ∷ C.RoundTime ∷ []
 
+abbrev pub durationCalls : List Call
+durationCalls = C.DurationNew ∷ C.DurationSign ∷ C.DurationAbs ∷ C.DurationNegated ∷ C.DurationAdjust ∷ []
+
 abbrev pub everyCall : List Call
-everyCall = dateCalls ++ timeCalls
+everyCall = dateCalls ++ (timeCalls ++ durationCalls)
 
 -- the first call of a list that has the name
 unfoldable pub callIn : List Call → List ℕ → Call
@@ -83,6 +98,13 @@ unitKind = oneOf 10
 abbrev pub modeKind : Kind
 modeKind = oneOf 9
 
+abbrev pub durationKinds : List Kind
+durationKinds = signed 64 ∷ signed 64 ∷ signed 64 ∷ signed 64 ∷ []
+
+-- 0 kept, 1 given, and the number that is given
+abbrev pub choiceKinds : List Kind
+choiceKinds = oneOf 2 ∷ signed 64 ∷ []
+
 abbrev pub kindsOf : Call → List Kind
 kindsOf C.MonthLength = signed 32 ∷ unsigned 8 ∷ []
 kindsOf C.DateToDay = dateKinds
@@ -98,6 +120,11 @@ kindsOf C.TimeDifference = timeKinds ++ timeKinds
 kindsOf C.RoundNumber = signed 64 ∷ unsigned 64 ∷ modeKind ∷ []
 kindsOf C.RoundNumberAsIfPositive = signed 64 ∷ unsigned 64 ∷ modeKind ∷ []
 kindsOf C.RoundTime = timeKinds ++ (unitKind ∷ unsigned 64 ∷ modeKind ∷ [])
+kindsOf C.DurationNew = durationKinds
+kindsOf C.DurationSign = durationKinds
+kindsOf C.DurationAbs = durationKinds
+kindsOf C.DurationNegated = durationKinds
+kindsOf C.DurationAdjust = durationKinds ++ (signed 64 ∷ (choiceKinds ++ choiceKinds))
 kindsOf C.Unknown = []
 
 -- ---- answers: the numbers of a request as the call's parameters, and an answer's values in their order
@@ -130,6 +157,12 @@ unitOf z = getD units (natAbs z) U.Year
 abbrev pub modeOf : ℤ → RoundingMode
 modeOf z = getD modes (natAbs z) M.Ceil
 
+abbrev pub durationAt : List ℤ → ℕ → DateDuration
+durationAt zs i = duration (at zs i) (at zs (i + 1)) (at zs (i + 2)) (at zs (i + 3))
+
+abbrev pub partAt : List ℤ → ℕ → Part
+partAt zs i = cond (eqb (natAt zs i) 0) P.Kept (P.Given (at zs (i + 1)))
+
 abbrev pub values : {A : Type 0} → (A → List ℤ) → Answer A → Answer (List ℤ)
 values show (given a) = given (show a)
 values show (refused n) = refused n
@@ -150,6 +183,14 @@ balancedValues b = b .days ∷ timeValues (b .time)
 abbrev pub spanValues : TimeDuration → List ℤ
 spanValues d = d .seconds ∷ d .nanoseconds ∷ []
 
+abbrev pub durationValues : DateDuration → List ℤ
+durationValues d = d .years ∷ d .months ∷ d .weeks ∷ d .days ∷ []
+
+abbrev pub signNumber : Sign → ℤ
+signNumber S.Negative = negℤ (pos 1)
+signNumber S.Zero = pos 0
+signNumber S.Positive = pos 1
+
 unfoldable pub meaningOf : Call → List ℤ → Answer (List ℤ)
 meaningOf C.MonthLength zs = values (λ n. pos n ∷ []) (monthLength (at zs 0) (natAt zs 1))
 meaningOf C.DateToDay zs = values (λ n. n ∷ []) (dateToDay (dateAt zs 0))
@@ -165,6 +206,11 @@ meaningOf C.TimeDifference zs = values spanValues (timeDifference (timeAt zs 0) 
 meaningOf C.RoundNumber zs = values (λ n. n ∷ []) (roundNumber (at zs 0) (natAt zs 1) (modeOf (at zs 2)))
 meaningOf C.RoundNumberAsIfPositive zs = values (λ n. n ∷ []) (roundNumberAsIfPositive (at zs 0) (natAt zs 1) (modeOf (at zs 2)))
 meaningOf C.RoundTime zs = values balancedValues (roundedTime (timeAt zs 0) (unitOf (at zs 6)) (natAt zs 7) (modeOf (at zs 8)))
+meaningOf C.DurationNew zs = values durationValues (newDuration (durationAt zs 0))
+meaningOf C.DurationSign zs = values (λ s. signNumber s ∷ []) (durationSign (durationAt zs 0))
+meaningOf C.DurationAbs zs = values durationValues (durationAbs (durationAt zs 0))
+meaningOf C.DurationNegated zs = values durationValues (durationNegated (durationAt zs 0))
+meaningOf C.DurationAdjust zs = values durationValues (durationAdjust (durationAt zs 0) (at zs 4) (partAt zs 5) (partAt zs 7))
 meaningOf C.Unknown zs = given []
 
 -- ---- the reply to a line

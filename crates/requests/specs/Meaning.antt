@@ -13,7 +13,7 @@ use Rattle.options.specs.declared.Unit.the-variants as U
 use Rattle.rounding.specs.declared.RoundingMode.{RoundingMode}
 use Rattle.rounding.specs.declared.RoundingMode.the-variants as M
 use Rattle.requests.specs.Protocol.{Kind, Reply, question, answer, Arguments, these, noArguments, also}
-use Rattle.requests.specs.Calls.{dateValues, timeValues}
+use Rattle.requests.specs.Calls.{dateValues, timeValues, durationValues}
 use Rattle.requests.specs.declared.written.Written.{Written}
 use Rattle.requests.specs.declared.read.Int.{Int}
 use Rattle.requests.specs.declared.read.Int.the-variants as I
@@ -32,6 +32,11 @@ use Rattle.requests.specs.declared.read.ModeField.the-variants as N
 use Rattle.requests.specs.declared.read.TimeFields.{TimeFields}
 use Rattle.requests.specs.declared.read.TimeFields.the-variants as T
 use Rattle.requests.specs.declared.read.Parts.{Parts}
+use Rattle.requests.specs.declared.read.DurationFields.{DurationFields}
+use Rattle.requests.specs.declared.read.DurationFields.the-variants as E
+use Rattle.requests.specs.declared.read.Choice.{Choice}
+use Rattle.requests.specs.declared.read.ChoiceFields.{ChoiceFields}
+use Rattle.requests.specs.declared.read.ChoiceFields.the-variants as H
 use Rattle.requests.specs.declared.read.PartsFields.{PartsFields}
 use Rattle.requests.specs.declared.read.PartsFields.the-variants as P
 
@@ -114,3 +119,15 @@ partsValues p = p .hour ∷ p .minute ∷ p .second ∷ p .millisecond ∷ p .mi
 abbrev pub ofPartsFields : PartsFields → Arguments
 ofPartsFields (P.Are p) = these (partsValues p)
 ofPartsFields P.Not = noArguments
+
+abbrev pub ofDurationFields : DurationFields → Arguments
+ofDurationFields (E.Are d) = these (durationValues d)
+ofDurationFields E.Not = noArguments
+
+-- what a choice was read from: 0 or 1, and the number
+abbrev pub choiceValues : Choice → List ℤ
+choiceValues c = pos (cond (c .given) 1 0) ∷ c .number ∷ []
+
+abbrev pub ofChoiceFields : ChoiceFields → Arguments
+ofChoiceFields (H.Are c) = these (choiceValues c)
+ofChoiceFields H.Not = noArguments

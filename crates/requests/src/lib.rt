@@ -1,5 +1,6 @@
 // The requests of the line protocol and their answers: a line in, the line that answers it out.
 mod dates;
+mod durations;
 pub mod inner;
 mod read;
 mod times;
@@ -7,7 +8,10 @@ mod written;
 
 use check::same;
 pub use read::Byte;
+pub use read::Choice;
+pub use read::ChoiceFields;
 pub use read::DateFields;
+pub use read::DurationFields;
 pub use read::Int;
 pub use read::ModeField;
 pub use read::OverflowField;
@@ -18,7 +22,8 @@ pub use read::TimeFields;
 pub use read::UnitField;
 pub use written::Written;
 ghost use mathlib.Core.Path.{_≡_};
-ghost use Rattle.requests.specs.Calls.{callIn, timeCalls, everyCall, replyTo};
+ghost use mathlib.Core.List.{_++_};
+ghost use Rattle.requests.specs.Calls.{callIn, timeCalls, durationCalls, everyCall, replyTo};
 ghost use Rattle.requests.specs.Meaning.{Says};
 
 // The calls that a request can name, in the order of the protocol's table.
@@ -37,6 +42,11 @@ pub enum Call {
     RoundNumber,
     RoundNumberAsIfPositive,
     RoundTime,
+    DurationNew,
+    DurationSign,
+    DurationAbs,
+    DurationNegated,
+    DurationAdjust,
     Unknown,
 }
 
@@ -72,7 +82,7 @@ pub fn call_named(name: &[u8]) -> Call
 }
 
 fn time_call(name: &[u8]) -> Call
-    ensures { λ r. ⌜ r ≡ callIn timeCalls (now (name .entry)) ⌝ }
+    ensures { λ r. ⌜ r ≡ callIn (timeCalls ++ durationCalls) (now (name .entry)) ⌝ }
 {
     if same(name, b"regulate_time") {
         return Call::RegulateTime;
@@ -91,6 +101,27 @@ fn time_call(name: &[u8]) -> Call
     }
     if same(name, b"round_time") {
         return Call::RoundTime;
+    }
+    duration_call(name)
+}
+
+fn duration_call(name: &[u8]) -> Call
+    ensures { λ r. ⌜ r ≡ callIn durationCalls (now (name .entry)) ⌝ }
+{
+    if same(name, b"duration_new") {
+        return Call::DurationNew;
+    }
+    if same(name, b"duration_sign") {
+        return Call::DurationSign;
+    }
+    if same(name, b"duration_abs") {
+        return Call::DurationAbs;
+    }
+    if same(name, b"duration_negated") {
+        return Call::DurationNegated;
+    }
+    if same(name, b"duration_adjust") {
+        return Call::DurationAdjust;
     }
     Call::Unknown
 }
@@ -115,6 +146,11 @@ pub fn reply_to(line: &[u8]) -> Written
         Call::RoundNumber => times::round_number(line),
         Call::RoundNumberAsIfPositive => times::round_number_as_if_positive(line),
         Call::RoundTime => times::round_time(line),
+        Call::DurationNew => durations::duration_new(line),
+        Call::DurationSign => durations::duration_sign(line),
+        Call::DurationAbs => durations::duration_abs(line),
+        Call::DurationNegated => durations::duration_negated(line),
+        Call::DurationAdjust => durations::duration_adjust(line),
         Call::Unknown => written::no_request(),
     }
 }

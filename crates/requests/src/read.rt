@@ -1,4 +1,5 @@
 // Fields read as numbers of the parameters' types, alone and in groups.
+use date_duration::DateDuration;
 use iso_date::IsoDate;
 use iso_time::IsoTime;
 use lines::Natural;
@@ -11,8 +12,8 @@ ghost use mathlib.Core.Path.{_≡_};
 ghost use Rattle.lines.specs.Text.{fields};
 ghost use Rattle.lines.specs.Meaning.{ofSigned};
 ghost use Rattle.requests.specs.Protocol.{signed, unsigned};
-ghost use Rattle.requests.specs.Calls.{dateKinds, overflowKind, timeKinds, partsKinds, unitKind, modeKind};
-ghost use Rattle.requests.specs.Meaning.{ofInt, ofByte, ofShort, ofOverflowField, ofUnitField, ofModeField, ofDateFields, ofTimeFields, ofPartsFields, readAs, collect};
+ghost use Rattle.requests.specs.Calls.{dateKinds, overflowKind, timeKinds, partsKinds, durationKinds, choiceKinds, unitKind, modeKind};
+ghost use Rattle.requests.specs.Meaning.{ofInt, ofByte, ofShort, ofOverflowField, ofUnitField, ofModeField, ofDateFields, ofTimeFields, ofPartsFields, ofDurationFields, ofChoiceFields, readAs, collect};
 
 // A number of 32 bits with a sign, or no such number.
 pub enum Int {
@@ -74,6 +75,23 @@ pub struct Parts {
 
 pub enum PartsFields {
     Are(Parts),
+    Not,
+}
+
+// Four fields as a duration, or no such numbers.
+pub enum DurationFields {
+    Are(DateDuration),
+    Not,
+}
+
+// Whether a part is given, and the number that is then meant.
+pub struct Choice {
+    pub given: bool,
+    pub number: i64,
+}
+
+pub enum ChoiceFields {
+    Are(Choice),
     Not,
 }
 
@@ -245,5 +263,45 @@ pub fn parts_at(line: &[u8], i: u8) -> PartsFields
         millisecond,
         microsecond,
         nanosecond,
+    })
+}
+
+// The duration whose parts start at field i.
+pub fn duration_at(line: &[u8], i: u8) -> DurationFields
+    ensures { λ r. ⌜ ofDurationFields r ≡ collect durationKinds (fields (now (line .entry))) i ⌝ }
+{
+    let Signed::Is(years) = long_at(line, i as usize) else {
+        return DurationFields::Not;
+    };
+    let Signed::Is(months) = long_at(line, i as usize + 1) else {
+        return DurationFields::Not;
+    };
+    let Signed::Is(weeks) = long_at(line, i as usize + 2) else {
+        return DurationFields::Not;
+    };
+    let Signed::Is(days) = long_at(line, i as usize + 3) else {
+        return DurationFields::Not;
+    };
+    DurationFields::Are(DateDuration {
+        years,
+        months,
+        weeks,
+        days,
+    })
+}
+
+// The choice that starts at field i: 0 kept or 1 given, and a number.
+pub fn choice_at(line: &[u8], i: u8) -> ChoiceFields
+    ensures { λ r. ⌜ ofChoiceFields r ≡ collect choiceKinds (fields (now (line .entry))) i ⌝ }
+{
+    let Natural::Is(given) = lines::natural_at(line, i as usize, 1) else {
+        return ChoiceFields::Not;
+    };
+    let Signed::Is(number) = long_at(line, i as usize + 1) else {
+        return ChoiceFields::Not;
+    };
+    ChoiceFields::Are(Choice {
+        given: given == 1,
+        number,
     })
 }

@@ -1,4 +1,8 @@
 // Replies as they are to be written.
+use date_duration::DateDuration;
+use date_duration::DurationResult;
+use date_duration::Sign;
+use date_duration::SignResult;
 use iso_date::DateResult;
 use iso_date::DayResult;
 use iso_date::LimitResult;
@@ -13,10 +17,11 @@ use rounding::Rounded;
 ghost use mathlib.Core.List.{[], _∷_};
 ghost use lib.IntN.{pos};
 ghost use Rattle.iso_date.specs.Paper.{ofMonthLength, ofDay, ofDate, ofLimit};
+ghost use Rattle.date_duration.specs.Paper.{ofDuration, ofSign};
 ghost use Rattle.iso_time.specs.Paper.{ofTime, ofBalance, ofSpan};
 ghost use Rattle.rounding.specs.Paper.{ofRounded};
 ghost use Rattle.requests.specs.Protocol.{question, answer, said};
-ghost use Rattle.requests.specs.Calls.{values, dateValues, yearMonthValues, timeValues, balancedValues, spanValues};
+ghost use Rattle.requests.specs.Calls.{values, dateValues, yearMonthValues, timeValues, balancedValues, spanValues, durationValues, signNumber};
 ghost use Rattle.requests.specs.Meaning.{Says};
 
 // A reply: an answer's number and the first `count` of the values, or no request at all.
@@ -214,5 +219,44 @@ pub fn rounded_reply(r: Rounded) -> Written
     match r {
         Rounded::Number(n) => one_value(n),
         Rounded::Refused(n) => number_alone(n),
+    }
+}
+
+fn duration_values(d: DateDuration) -> Written
+    ensures { λ r. ⌜ Says r (answer 0 (durationValues d)) ⌝ }
+{
+    Written {
+        known: true,
+        number: 0,
+        count: 4,
+        values: [d.years, d.months, d.weeks, d.days, 0, 0, 0, 0, 0, 0, 0, 0],
+    }
+}
+
+pub fn duration_reply(r: DurationResult) -> Written
+    ensures { λ w. ⌜ Says w (said (values durationValues (ofDuration r))) ⌝ }
+{
+    match r {
+        DurationResult::Duration(d) => duration_values(d),
+        DurationResult::Refused(n) => number_alone(n),
+    }
+}
+
+fn sign_value(s: Sign) -> Written
+    ensures { λ r. ⌜ Says r (answer 0 (signNumber s ∷ [])) ⌝ }
+{
+    match s {
+        Sign::Negative => one_value(-1),
+        Sign::Zero => one_value(0),
+        Sign::Positive => one_value(1),
+    }
+}
+
+pub fn sign_reply(r: SignResult) -> Written
+    ensures { λ w. ⌜ Says w (said (values (λ s. signNumber s ∷ []) (ofSign r))) ⌝ }
+{
+    match r {
+        SignResult::Sign(s) => sign_value(s),
+        SignResult::Refused(n) => number_alone(n),
     }
 }

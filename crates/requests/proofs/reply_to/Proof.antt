@@ -1,7 +1,7 @@
 -- The first field names the call; its reply is that of the call.
 use borrow.Author.Needs.{needs}
 use mathlib.Core.Path.{_∙_}
-use Rattle.requests.specs.declared.Call.the-variants.{MonthLength, DateToDay, DayToDate, BalanceYearMonth, RegulateDate, MakeDate, DateLimits, BalanceDate, RegulateTime, BalanceTime, TimeDifference, RoundNumber, RoundNumberAsIfPositive, RoundTime, Unknown}
+use Rattle.requests.specs.declared.Call.the-variants.{MonthLength, DateToDay, DayToDate, BalanceYearMonth, RegulateDate, MakeDate, DateLimits, BalanceDate, RegulateTime, BalanceTime, TimeDifference, RoundNumber, RoundNumberAsIfPositive, RoundTime, DurationNew, DurationSign, DurationAbs, DurationNegated, DurationAdjust, Unknown}
 use Rattle.requests.proofs.Laws.{says-as, reply-as, unknown-reply}
 use Rattle.requests.proofs.reply_to.Statement.{statement}
 use Rattle.requests.proofs.reply_to.Tie as tie
@@ -99,6 +99,36 @@ round-time-requires c κs = search needs
 enum-told-15 : tie.Need-enum-told-15
 enum-told-15 c = search needs
 
+duration-new-requires : tie.Need-duration-new-requires
+duration-new-requires c κs = search needs
+
+enum-told-16 : tie.Need-enum-told-16
+enum-told-16 c = search needs
+
+duration-sign-requires : tie.Need-duration-sign-requires
+duration-sign-requires c κs = search needs
+
+enum-told-17 : tie.Need-enum-told-17
+enum-told-17 c = search needs
+
+duration-abs-requires : tie.Need-duration-abs-requires
+duration-abs-requires c κs = search needs
+
+enum-told-18 : tie.Need-enum-told-18
+enum-told-18 c = search needs
+
+duration-negated-requires : tie.Need-duration-negated-requires
+duration-negated-requires c κs = search needs
+
+enum-told-19 : tie.Need-enum-told-19
+enum-told-19 c = search needs
+
+duration-adjust-requires : tie.Need-duration-adjust-requires
+duration-adjust-requires c κs = search needs
+
+enum-told-20 : tie.Need-enum-told-20
+enum-told-20 c = search needs
+
 no-request-requires : tie.Need-no-request-requires
 no-request-requires c κs = search needs
 
@@ -175,8 +205,33 @@ returns-14 c =
 returns-15 : tie.Need-returns-15
 returns-15 c =
     let t = c .before .before .before in
+    says-as (c .duration-new .ensures) (reply-as DurationNew _ _ _ (t .call-named .ensures) (t .before .field .ensures) (c .before .enum-told15 .given .1))
+
+returns-16 : tie.Need-returns-16
+returns-16 c =
+    let t = c .before .before .before in
+    says-as (c .duration-sign .ensures) (reply-as DurationSign _ _ _ (t .call-named .ensures) (t .before .field .ensures) (c .before .enum-told16 .given .1))
+
+returns-17 : tie.Need-returns-17
+returns-17 c =
+    let t = c .before .before .before in
+    says-as (c .duration-abs .ensures) (reply-as DurationAbs _ _ _ (t .call-named .ensures) (t .before .field .ensures) (c .before .enum-told17 .given .1))
+
+returns-18 : tie.Need-returns-18
+returns-18 c =
+    let t = c .before .before .before in
+    says-as (c .duration-negated .ensures) (reply-as DurationNegated _ _ _ (t .call-named .ensures) (t .before .field .ensures) (c .before .enum-told18 .given .1))
+
+returns-19 : tie.Need-returns-19
+returns-19 c =
+    let t = c .before .before .before in
+    says-as (c .duration-adjust .ensures) (reply-as DurationAdjust _ _ _ (t .call-named .ensures) (t .before .field .ensures) (c .before .enum-told19 .given .1))
+
+returns-20 : tie.Need-returns-20
+returns-20 c =
+    let t = c .before .before .before in
     says-as (c .no-request .ensures)
-    (unknown-reply _ ∙ reply-as Unknown _ _ _ (t .call-named .ensures) (t .before .field .ensures) (c .before .enum-told15 .given .1))
+    (unknown-reply _ ∙ reply-as Unknown _ _ _ (t .call-named .ensures) (t .before .field .ensures) (c .before .enum-told20 .given .1))
 
 pub reply-to-spec : {M : Type 1} → statement M
 reply-to-spec =
@@ -213,6 +268,16 @@ reply-to-spec =
     enum-told-14
     round-time-requires
     enum-told-15
+    duration-new-requires
+    enum-told-16
+    duration-sign-requires
+    enum-told-17
+    duration-abs-requires
+    enum-told-18
+    duration-negated-requires
+    enum-told-19
+    duration-adjust-requires
+    enum-told-20
     no-request-requires
     returns
     returns-2
@@ -228,4 +293,9 @@ reply-to-spec =
     returns-12
     returns-13
     returns-14
-    returns-15)
+    returns-15
+    returns-16
+    returns-17
+    returns-18
+    returns-19
+    returns-20)

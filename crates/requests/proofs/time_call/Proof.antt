@@ -1,29 +1,30 @@
 -- Each name in turn: the first that is the same is the call.
 use borrow.Author.Needs.{needs}
 use mathlib.Core.Path.{_≡_, sym, _∙_}
+use mathlib.Core.List.{_++_}
 use lib.ListN.{drop}
-use Rattle.requests.specs.Calls.{callIn, timeCalls}
+use Rattle.requests.specs.Calls.{callIn, timeCalls, durationCalls}
 use Rattle.requests.specs.declared.Call.the-variants.{RegulateTime, BalanceTime, TimeDifference, RoundNumber, RoundNumberAsIfPositive, RoundTime}
 use Rattle.requests.proofs.Laws.{this-call, next-call}
 use Rattle.requests.proofs.time_call.Statement.{statement}
 use Rattle.requests.proofs.time_call.Tie as tie
 
-past1 : (c : tie.Else1) → callIn timeCalls (c .before .before .before .before .args .name .now) ≡ callIn (drop 1 timeCalls) (c .before .before .before .before .args .name .now)
+past1 : (c : tie.Else1) → callIn (timeCalls ++ durationCalls) (c .before .before .before .before .args .name .now) ≡ callIn (drop 1 (timeCalls ++ durationCalls)) (c .before .before .before .before .args .name .now)
 past1 c = next-call RegulateTime _ _ _ (c .before .same .ensures) (c .if1 .left)
 
-past2 : (c : tie.Else2) → callIn timeCalls (c .before .before .before .before .before .before .before .args .name .now) ≡ callIn (drop 2 timeCalls) (c .before .before .before .before .before .before .before .args .name .now)
+past2 : (c : tie.Else2) → callIn (timeCalls ++ durationCalls) (c .before .before .before .before .before .before .before .args .name .now) ≡ callIn (drop 2 (timeCalls ++ durationCalls)) (c .before .before .before .before .before .before .before .args .name .now)
 past2 c = past1 (c .before .before .before) ∙ next-call BalanceTime _ _ _ (c .before .same2 .ensures) (c .if2 .left)
 
-past3 : (c : tie.Else3) → callIn timeCalls (c .before .before .before .before .before .before .before .before .before .before .args .name .now) ≡ callIn (drop 3 timeCalls) (c .before .before .before .before .before .before .before .before .before .before .args .name .now)
+past3 : (c : tie.Else3) → callIn (timeCalls ++ durationCalls) (c .before .before .before .before .before .before .before .before .before .before .args .name .now) ≡ callIn (drop 3 (timeCalls ++ durationCalls)) (c .before .before .before .before .before .before .before .before .before .before .args .name .now)
 past3 c = past2 (c .before .before .before) ∙ next-call TimeDifference _ _ _ (c .before .same3 .ensures) (c .if3 .left)
 
-past4 : (c : tie.Else4) → callIn timeCalls (c .before .before .before .before .before .before .before .before .before .before .before .before .before .args .name .now) ≡ callIn (drop 4 timeCalls) (c .before .before .before .before .before .before .before .before .before .before .before .before .before .args .name .now)
+past4 : (c : tie.Else4) → callIn (timeCalls ++ durationCalls) (c .before .before .before .before .before .before .before .before .before .before .before .before .before .args .name .now) ≡ callIn (drop 4 (timeCalls ++ durationCalls)) (c .before .before .before .before .before .before .before .before .before .before .before .before .before .args .name .now)
 past4 c = past3 (c .before .before .before) ∙ next-call RoundNumber _ _ _ (c .before .same4 .ensures) (c .if4 .left)
 
-past5 : (c : tie.Else5) → callIn timeCalls (c .before .before .before .before .before .before .before .before .before .before .before .before .before .before .before .before .args .name .now) ≡ callIn (drop 5 timeCalls) (c .before .before .before .before .before .before .before .before .before .before .before .before .before .before .before .before .args .name .now)
+past5 : (c : tie.Else5) → callIn (timeCalls ++ durationCalls) (c .before .before .before .before .before .before .before .before .before .before .before .before .before .before .before .before .args .name .now) ≡ callIn (drop 5 (timeCalls ++ durationCalls)) (c .before .before .before .before .before .before .before .before .before .before .before .before .before .before .before .before .args .name .now)
 past5 c = past4 (c .before .before .before) ∙ next-call RoundNumberAsIfPositive _ _ _ (c .before .same5 .ensures) (c .if5 .left)
 
-past6 : (c : tie.Else6) → callIn timeCalls (c .before .before .before .before .before .before .before .before .before .before .before .before .before .before .before .before .before .before .before .args .name .now) ≡ callIn (drop 6 timeCalls) (c .before .before .before .before .before .before .before .before .before .before .before .before .before .before .before .before .before .before .before .args .name .now)
+past6 : (c : tie.Else6) → callIn (timeCalls ++ durationCalls) (c .before .before .before .before .before .before .before .before .before .before .before .before .before .before .before .before .before .before .before .args .name .now) ≡ callIn (drop 6 (timeCalls ++ durationCalls)) (c .before .before .before .before .before .before .before .before .before .before .before .before .before .before .before .before .before .before .before .args .name .now)
 past6 c = past5 (c .before .before .before) ∙ next-call RoundTime _ _ _ (c .before .same6 .ensures) (c .if6 .left)
 
 slice-aggregate-same : tie.Need-slice-aggregate-same
@@ -80,9 +81,11 @@ same-requires-6 c κs = search needs
 returns-6 : tie.Need-returns-6
 returns-6 c = sym (past5 (c .before .before .before) ∙ this-call RoundTime _ _ _ (c .before .same6 .ensures) (c .if6 .taken))
 
+duration-call-requires : tie.Need-duration-call-requires
+duration-call-requires c κs = search needs
+
 returns-7 : tie.Need-returns-7
-unfolding callIn
-returns-7 c = sym (past6 c)
+returns-7 c = c .duration-call .ensures ∙ sym (past6 (c .before))
 
 pub time-call-spec : {M : Type 1} → statement M
 time-call-spec =
@@ -106,4 +109,5 @@ time-call-spec =
     slice-aggregate-same-6
     same-requires-6
     returns-6
+    duration-call-requires
     returns-7)

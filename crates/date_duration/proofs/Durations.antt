@@ -1,0 +1,164 @@
+-- Parts within their bounds, and tests one after another. Assumes nothing.
+use Prim.Native.Nat.{ℕ, zero, suc, _*_, _^_, _≤_, _<_}
+use native.Mathlib.Omega.{arith}
+use mathlib.Core.Path.{_≡_, refl, sym, _∙_, ap}
+use mathlib.Core.Bool.{Bool, true, false, not, _&&_, _||_}
+use borrow.Author.Tests.{leb-true, leb-false, lt-ltb, le-ltb, ltb-true, ne-eqb}
+use lib.Dec.{leb, ltb}
+use lib.IntN.{ℤ, pos, negsuc, negℤ, negℤ-negℤ, natAbs}
+use lib.Signed.{leZ, _≤ℤ_, _<ℤ_}
+use Rattle.whole.proofs.Laws.{ints}
+use Rattle.refusal.specs.Answer.{refused}
+use Rattle.date_duration.specs.Proposal.{keptOr, duration, anyBelow, anyAbove, small, smallDays, allSmall, isValidDuration, signOf, orElse}
+use Rattle.date_duration.specs.Paper.{newDuration, durationAdjust}
+use Rattle.date_duration.specs.declared.Part.{Part}
+use Rattle.date_duration.specs.declared.DateDuration.{DateDuration}
+use Rattle.date_duration.specs.declared.Sign.{Sign}
+use Rattle.date_duration.specs.declared.Sign.the-variants.{Negative, Zero, Positive}
+
+-- ---- tests one after another
+
+pub fails : (a b : Bool) → a ≡ false → false ≡ (a && b)
+fails a b e = rw e
+
+pub passes : (a b : Bool) → a ≡ true → b ≡ (a && b)
+passes a b e = rw e
+
+pub holds : (a b : Bool) → a ≡ true → true ≡ (a || b)
+holds a b e = rw e
+
+pub goes-on : (a b : Bool) → a ≡ false → b ≡ (a || b)
+goes-on a b e = rw e
+
+both : (a b : Bool) → (a && b) ≡ true → (a ≡ true) × (b ≡ true)
+both true b e = (refl, e)
+both false b e = let z : _≡_ {A = ℕ} 0 1 = cc in let f : ⊥ = omega arith in absurd f
+
+-- ---- bounds
+
+same-test : (n k a b : ℕ) → (n ≤ k → a < b) → (k < n → b ≤ a) → leb n k ≡ ltb a b
+same-test n k a b f g = go (leb n k) refl
+  where
+    go : (t : Bool) → leb n k ≡ t → leb n k ≡ ltb a b
+    go true e = e ∙ sym (lt-ltb a b (f (leb-true n k e)))
+    go false e = e ∙ sym (le-ltb a b (g (leb-false n k e)))
+
+pub too-small : (z : ℤ) → z <ℤ negℤ (pos 4294967295) → false ≡ small z
+unfolding small
+too-small (pos n) h = let f : ⊥ = omega (arith, ints) in absurd f
+too-small (negsuc n) h = sym (le-ltb (suc n) (2 ^ 32) (omega (arith, ints)))
+
+pub small-enough : (z : ℤ) → negℤ (pos 4294967295) ≤ℤ z → leZ z (pos 4294967295) ≡ small z
+unfolding small
+small-enough (pos n) h = same-test n 4294967295 n (2 ^ 32) (λ l. omega arith) (λ l. omega arith)
+small-enough (negsuc n) h = sym (lt-ltb (suc n) (2 ^ 32) (omega (arith, ints)))
+
+pub too-few : (z : ℤ) → z <ℤ negℤ (pos 104249991374) → false ≡ smallDays z
+unfolding smallDays
+too-few (pos n) h = let f : ⊥ = omega (arith, ints) in absurd f
+too-few (negsuc n) h = sym (le-ltb (suc n * 86400) (2 ^ 53) (omega (arith, ints)))
+
+pub few-enough : (z : ℤ) → negℤ (pos 104249991374) ≤ℤ z → leZ z (pos 104249991374) ≡ smallDays z
+unfolding smallDays
+few-enough (pos n) h = same-test n 104249991374 (n * 86400) (2 ^ 53) (λ l. omega arith) (λ l. omega arith)
+few-enough (negsuc n) h = sym (lt-ltb (suc n * 86400) (2 ^ 53) (omega (arith, ints)))
+
+-- the parts of a valid duration can be turned
+pub record Turnable (d : DateDuration) : Type 0 where
+  pub years-small : natAbs (d .years) < 2 ^ 62
+  pub months-small : natAbs (d .months) < 2 ^ 62
+  pub weeks-small : natAbs (d .weeks) < 2 ^ 62
+  pub days-small : natAbs (d .days) < 2 ^ 62
+
+pub turnable : (d : DateDuration) → isValidDuration d ≡ true → Turnable d
+unfolding isValidDuration allSmall small smallDays
+turnable d e =
+    let s : allSmall d ≡ true = both (allSmall d) (not (anyBelow d && anyAbove d)) e .0 in
+    let a = both (small (d .years)) (small (d .months) && (small (d .weeks) && smallDays (d .days))) s in
+    let b = both (small (d .months)) (small (d .weeks) && smallDays (d .days)) (a .1) in
+    let c = both (small (d .weeks)) (smallDays (d .days)) (b .1) in
+    record {
+      years-small = omega (arith, ltb-true (natAbs (d .years)) (2 ^ 32) (a .0));
+      months-small = omega (arith, ltb-true (natAbs (d .months)) (2 ^ 32) (b .0));
+      weeks-small = omega (arith, ltb-true (natAbs (d .weeks)) (2 ^ 32) (c .0));
+      days-small = omega (arith, ltb-true (natAbs (d .days) * 86400) (2 ^ 53) (c .1));
+    }
+
+-- ---- validity
+
+module _ (d : DateDuration) where
+  pub not-small : allSmall d ≡ false → false ≡ isValidDuration d
+  unfolding isValidDuration
+  not-small e = rw e
+
+  pub none-below : allSmall d ≡ true → anyBelow d ≡ false → true ≡ isValidDuration d
+  unfolding isValidDuration
+  none-below e f = rw (e, f)
+
+  pub some-below : allSmall d ≡ true → anyBelow d ≡ true → not (anyAbove d) ≡ isValidDuration d
+  unfolding isValidDuration
+  some-below e f = rw (e, f)
+
+-- ---- signs
+
+pub sign-below : (z : ℤ) → z <ℤ pos 0 → Negative ≡ signOf z
+unfolding signOf
+sign-below (pos n) h = let f : ⊥ = omega (arith, ints) in absurd f
+sign-below (negsuc n) h = refl
+
+pub sign-none : (z : ℤ) → z ≡ pos 0 → Zero ≡ signOf z
+unfolding signOf
+sign-none z e = rw e
+
+pub sign-above : (z : ℤ) → pos 0 ≤ℤ z → (z ≡ pos 0 → ⊥) → Positive ≡ signOf z
+unfolding signOf
+sign-above (pos n) h k = rw (ne-eqb n 0 (λ e. k (ap pos e)))
+sign-above (negsuc n) h k = let f : ⊥ = omega (arith, ints) in absurd f
+
+pub first-is : (z : ℤ) (rest : Sign) → (z ≡ pos 0 → ⊥) → signOf z ≡ orElse (signOf z) rest
+unfolding signOf
+first-is (pos n) rest h = rw (ne-eqb n 0 (λ e. h (ap pos e)))
+first-is (negsuc n) rest h = refl
+
+pub first-none : (z : ℤ) (rest : Sign) → z ≡ pos 0 → rest ≡ orElse (signOf z) rest
+unfolding signOf
+first-none z rest e = rw e
+
+-- ---- sizes
+
+-- of a number below zero with a size n
+module _ (z : ℤ) (n : ℕ) (e : z ≡ negℤ (pos n)) where
+  size-is : natAbs z ≡ n
+  size-is = rw e (of-negative n)
+    where
+      of-negative : (k : ℕ) → natAbs (negℤ (pos k)) ≡ k
+      of-negative zero = refl
+      of-negative (suc k) = refl
+
+  pub size-small : natAbs z < 2 ^ 62 → n < 2 ^ 63
+  size-small h = omega (arith, size-is)
+
+  pub size-below : (r : ℤ) → r ≡ pos n → r ≡ pos (natAbs z)
+  size-below r f = f ∙ ap pos (sym size-is)
+
+  pub turned-below : (r : ℤ) → r ≡ pos n → r ≡ negℤ z
+  turned-below r f = f ∙ sym (negℤ-negℤ (pos n)) ∙ ap negℤ (sym e)
+
+pub size-above : (z : ℤ) → pos 0 ≤ℤ z → z ≡ pos (natAbs z)
+size-above (pos n) h = refl
+size-above (negsuc n) h = let f : ⊥ = omega (arith, ints) in absurd f
+
+pub same-parts : (a b c d a′ b′ c′ d′ : ℤ) → a ≡ a′ → b ≡ b′ → c ≡ c′ → d ≡ d′ → duration a b c d ≡ duration a′ b′ c′ d′
+same-parts a b c d a′ b′ c′ d′ p q r s = rw (p, q, r, s)
+
+-- ---- answers
+
+module _ (d : DateDuration) (days : ℤ) (weeks months : Part) where
+  pub adjust-refused : isValidDuration d ≡ false → refused 8 ≡ durationAdjust d days weeks months
+  unfolding durationAdjust
+  adjust-refused e = rw e
+
+  pub adjust-is : (y m w n : ℤ) → isValidDuration d ≡ true → y ≡ d .years → m ≡ keptOr months (d .months) → w ≡ keptOr weeks (d .weeks) → n ≡ days →
+      newDuration (duration y m w n) ≡ durationAdjust d days weeks months
+  unfolding durationAdjust
+  adjust-is y m w n v p q r s = rw (v, p, q, r, s)

@@ -1,0 +1,28 @@
+-- Kept, or given.
+use borrow.Author.Needs.{needs}
+use mathlib.Core.Path.{_≡_}
+use mir.Facts.{toZ-ofZ}
+use mir.Syntax.{w64}
+use mir.Val.{toZ, ofZ}
+use Rattle.date_duration.proofs.kept_or.Statement.{statement}
+use Rattle.date_duration.proofs.kept_or.Tie as tie
+
+enum-told : tie.Need-enum-told
+enum-told c = search needs
+
+enum-known-part : tie.Need-enum-known-part
+enum-known-part c = search needs
+
+returns : tie.Need-returns
+returns c =
+    let s = c .before .before in
+    rw (toZ-ofZ (s .fits .old), c .enum-told .given .1)
+
+returns-2 : tie.Need-returns-2
+returns-2 c =
+    let x = c .before .part .given .0 .0 in
+    let back : toZ w64 (ofZ w64 x) ≡ x = search needs in
+    rw (back, c .before .part .given .1)
+
+pub kept-or-spec : {M : Type 1} → statement M
+kept-or-spec = tie.close (tie.spec enum-told enum-known-part returns returns-2)
