@@ -2,12 +2,13 @@
 use Prim.Native.Nat.{ℕ, zero, suc, _*_, _^_, _≤_, _<_}
 use native.Mathlib.Omega.{arith}
 use mathlib.Core.Path.{_≡_, refl, sym, _∙_, ap}
-use mathlib.Core.Bool.{Bool, true, false, not, _&&_, _||_}
+use mathlib.Core.Bool.{Bool, true, false, not, _&&_}
 use borrow.Author.Tests.{leb-true, leb-false, lt-ltb, le-ltb, ltb-true, ne-eqb}
 use lib.Dec.{leb, ltb}
 use lib.IntN.{ℤ, pos, negsuc, negℤ, negℤ-negℤ, natAbs}
 use lib.Signed.{leZ, _≤ℤ_, _<ℤ_}
 use Rattle.whole.proofs.Laws.{ints}
+use Rattle.whole.proofs.Tests.{both}
 use Rattle.refusal.specs.Answer.{refused}
 use Rattle.date_duration.specs.Proposal.{keptOr, duration, anyBelow, anyAbove, small, smallDays, allSmall, isValidDuration, signOf, orElse}
 use Rattle.date_duration.specs.Paper.{newDuration, durationAdjust}
@@ -15,24 +16,6 @@ use Rattle.date_duration.specs.declared.Part.{Part}
 use Rattle.date_duration.specs.declared.DateDuration.{DateDuration}
 use Rattle.date_duration.specs.declared.Sign.{Sign}
 use Rattle.date_duration.specs.declared.Sign.the-variants.{Negative, Zero, Positive}
-
--- ---- tests one after another
-
-pub fails : (a b : Bool) → a ≡ false → false ≡ (a && b)
-fails a b e = rw e
-
-pub passes : (a b : Bool) → a ≡ true → b ≡ (a && b)
-passes a b e = rw e
-
-pub holds : (a b : Bool) → a ≡ true → true ≡ (a || b)
-holds a b e = rw e
-
-pub goes-on : (a b : Bool) → a ≡ false → b ≡ (a || b)
-goes-on a b e = rw e
-
-both : (a b : Bool) → (a && b) ≡ true → (a ≡ true) × (b ≡ true)
-both true b e = (refl, e)
-both false b e = let z : _≡_ {A = ℕ} 0 1 = cc in let f : ⊥ = omega arith in absurd f
 
 -- ---- bounds
 

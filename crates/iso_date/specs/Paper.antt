@@ -34,7 +34,7 @@ abbrev pub ofDate : DateResult.DateResult → Answer IsoDate
 ofDate (D.Date d) = given d
 ofDate (D.Refused n) = refused n
 
--- a date within the limits is handed back as it is, so that a caller goes on with it
+-- that a date lies within the limits is an answer without values
 abbrev pub ofLimit : LimitResult.LimitResult → Answer (Unit {0})
 ofLimit W.Within = given tt
 ofLimit (W.Refused n) = refused n

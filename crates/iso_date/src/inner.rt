@@ -14,8 +14,6 @@ ghost use Rattle.iso_date.specs.Inner.{yearBias, monthBias, dayBias, yea
 pub const YEAR_BIAS: u64 = 8_000_000_000;
 // The days from the first day of year -YEAR_BIAS to 1970-01-01: 20,000,000 times 146,097 days of 400 years, and 719,528.
 pub const DAY_BIAS: u64 = 2_921_940_719_528;
-// A day count is balanced where it is at most this in size.
-pub const MOST_DAYS: u64 = 100_000_001;
 
 // As many months as lie in 400,000,000 years, so that a month of 32 bits, or one moved by a duration, is a natural.
 pub const MONTH_BIAS: u64 = 4_800_000_000;

@@ -8,6 +8,7 @@ use lib.Dec.{eqb}
 use borrow.Author.Tests.{eqb-true, ltb-true}
 use lib.IntN.{pos}
 use Rattle.whole.specs.Whole.{fdiv}
+use Rattle.whole.proofs.Tests.{both}
 use Rattle.options.specs.declared.Unit.{Unit as TimeUnit}
 use Rattle.options.specs.declared.Unit.the-variants as U
 use Rattle.rounding.specs.Proposal.{getUnsignedRoundingMode}
@@ -19,7 +20,7 @@ use Rattle.iso_time.specs.Proposal.{time, nanoseconds, quantity, unitLen
 use Rattle.iso_time.specs.Inner.{nsPerDay, Carried}
 use Rattle.iso_time.specs.declared.IsoTime.{IsoTime}
 use Rattle.iso_time.specs.declared.BalancedTime.{BalancedTime}
-use Rattle.iso_time.proofs.Times.{Valid, both, read-valid, exact, balance-exact, balance-valid, one-balanced}
+use Rattle.iso_time.proofs.Times.{Valid, read-valid, exact, balance-exact, balance-valid, one-balanced}
 
 -- the larger fields kept and k units put in the field: so many nanoseconds, and a valid time
 with-units : (unit : TimeUnit) (t : IsoTime) (k : ℕ) → 0 < unitLength unit →

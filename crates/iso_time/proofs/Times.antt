@@ -3,11 +3,12 @@ use Prim.Native.Nat.{ℕ, _+_, _*_, _/_, _%_, _≤_, _<_, min}
 use native.Mathlib.Nat.{mod-lt, div-add-mod}
 use native.Mathlib.Omega.{arith}
 use mathlib.Core.Path.{_≡_, refl, sym, _∙_, ap, ap₂}
-use mathlib.Core.Bool.{Bool, true, false, _&&_}
+use mathlib.Core.Bool.{true}
 use borrow.Author.Tests.{leb-true, le-leb}
 use lib.IntN.{ℤ, pos, negsuc, negℤ, natAbs, _+ℤ_, _-ℤ_, _*ℤ_}
 use Rattle.whole.specs.Whole.{_⊖_, fdiv, fmod}
 use Rattle.whole.proofs.Laws.{up, dn, parts, whole, ints, ⊖-add, fdiv-fmod, fdiv-unique, fmod-lt, quotient, of-pos, read-add, read-neg}
+use Rattle.whole.proofs.Tests.{both}
 use Rattle.iso_time.specs.Proposal.{time, isValidTime, balanced, balanceTime, nanoseconds}
 use Rattle.iso_time.specs.Inner.{fieldBias, nsPerDay}
 use Rattle.iso_time.specs.declared.IsoTime.{IsoTime}
@@ -22,10 +23,6 @@ pub record Valid (t : IsoTime) : Type 0 where
   pub millis : t .millisecond ≤ 999
   pub micros : t .microsecond ≤ 999
   pub nanos : t .nanosecond ≤ 999
-
-pub both : (a b : Bool) → (a && b) ≡ true → (a ≡ true) × (b ≡ true)
-both true b e = (refl, e)
-both false b e = let z : _≡_ {A = ℕ} 0 1 = cc in let f : ⊥ = omega arith in absurd f
 
 pub read-valid : (t : IsoTime) → isValidTime t ≡ true → Valid t
 unfolding isValidTime

@@ -12,6 +12,7 @@ use lib.Seq.{drop-cons}
 use lib.IntN.{ℤ, pos}
 use lib.Signed.{leZ, _≤ℤ_}
 use Rattle.whole.proofs.Laws.{ints}
+use Rattle.whole.proofs.Tests.{both}
 use Rattle.lines.specs.Text.{fields, Found, number, none, within, newline, answerText, questionText}
 use Rattle.lines.specs.Wrote.{Wrote}
 use Rattle.options.specs.declared.Overflow.{Overflow}
@@ -238,10 +239,6 @@ SameAs r a b = (r ≡ true → a ≡ b) × (a ≡ b → r ≡ true)
 same-refl : (a : List ℕ) → sameBytes a a ≡ true
 same-refl [] = refl
 same-refl (x ∷ a) = simp (eq-eqb x x refl, same-refl a)
-
-pub both : (p q : Bool) → (p && q) ≡ true → (p ≡ true) × (q ≡ true)
-both true q e = (refl, e)
-both false q e = let n : _≡_ {A = ℕ} 0 1 = cc in let f : ⊥ = omega arith in absurd f
 
 pub same-eq : (a b : List ℕ) → sameBytes a b ≡ true → a ≡ b
 same-eq [] [] e = refl

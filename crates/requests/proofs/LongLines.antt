@@ -12,12 +12,13 @@ use lib.Dec.{eqb, leb, ltb}
 use lib.IntN.{ℤ}
 use lib.ListN.{length, getD, drop}
 use Rattle.whole.proofs.Laws.{split}
+use Rattle.whole.proofs.Tests.{both}
 use Rattle.lines.specs.Text.{fields, joinFirst, space, Found, number, none, numberOf, naturalOf, negativeOf, valueFrom, shortest, isDigit, allDigits, digitZero, minusSign, within, questionText}
 use Rattle.requests.specs.Protocol.{bytes, sameBytes, Kind, Arguments, these, noArguments, also, arguments, question, replyWith, replyText}
 use Rattle.requests.specs.Calls.{nameOf, callIn, everyCall, isKnown, kindsOf, meaningOf, replyOf, replyTo, responseTo}
 use Rattle.requests.specs.Stream.{lineRoom}
 use Rattle.requests.specs.declared.Call.{Call}
-use Rattle.requests.proofs.Laws.{also-none, both, same-eq}
+use Rattle.requests.proofs.Laws.{also-none, same-eq}
 
 -- ---- the length of a line is that of its fields and the spaces between them
 

@@ -1,3 +1,4 @@
 pub mod Edges
 pub mod Every
 pub mod Laws
+pub mod Tests

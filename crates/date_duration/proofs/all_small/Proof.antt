@@ -4,7 +4,7 @@ use mathlib.Core.Path.{sym, _∙_}
 use borrow.Author.Tests.{not-true, not-false}
 use mir.Facts.{toZ-ofZ}
 use Rattle.date_duration.specs.Proposal.{allSmall}
-use Rattle.date_duration.proofs.Durations.{fails, passes}
+use Rattle.whole.proofs.Tests.{fails, passes}
 use Rattle.date_duration.proofs.all_small.Statement.{statement}
 use Rattle.date_duration.proofs.all_small.Tie as tie
 

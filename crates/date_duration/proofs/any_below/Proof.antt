@@ -7,7 +7,7 @@ use lib.IntN.{pos}
 use lib.Signed.{ltZ}
 use Rattle.whole.proofs.Laws.{ints}
 use Rattle.date_duration.specs.Proposal.{anyBelow}
-use Rattle.date_duration.proofs.Durations.{holds, goes-on}
+use Rattle.whole.proofs.Tests.{holds, goes-on}
 use Rattle.date_duration.proofs.any_below.Statement.{statement}
 use Rattle.date_duration.proofs.any_below.Tie as tie
 

@@ -4,7 +4,7 @@ use mathlib.Core.Path.{sym, _∙_}
 use borrow.Author.Tests.{not-true, not-false}
 use mir.Facts.{toZ-ofZ}
 use Rattle.iso_time.specs.Paper.{allBounded}
-use Rattle.iso_time.proofs.Checks.{fails, passes}
+use Rattle.whole.proofs.Tests.{fails, passes}
 use Rattle.iso_time.proofs.are_bounded.Statement.{statement}
 use Rattle.iso_time.proofs.are_bounded.Tie as tie
 

@@ -2,7 +2,7 @@
 use mathlib.Core.Path.{_∙_}
 use borrow.Author.Tests.{le-leb, lt-leb}
 use Rattle.iso_time.specs.Proposal.{isValidTime}
-use Rattle.iso_time.proofs.Checks.{fails, passes}
+use Rattle.whole.proofs.Tests.{fails, passes}
 use Rattle.iso_time.proofs.IsoTime.is_valid.Statement.{statement}
 use Rattle.iso_time.proofs.IsoTime.is_valid.Tie as tie
 

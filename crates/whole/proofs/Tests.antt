@@ -1,0 +1,23 @@
+-- Tests one after another. Assumes nothing.
+use Prim.Native.Nat.{ℕ}
+use native.Mathlib.Omega.{arith}
+use mathlib.Core.Path.{_≡_, refl}
+use mathlib.Core.Bool.{Bool, true, false, _&&_, _||_}
+
+pub both : (a b : Bool) → (a && b) ≡ true → (a ≡ true) × (b ≡ true)
+both true b e = (refl, e)
+both false b e = let z : _≡_ {A = ℕ} 0 1 = cc in let f : ⊥ = omega arith in absurd f
+
+-- all must hold: the first that fails decides, one that passes leaves it to the rest
+pub fails : (a b : Bool) → a ≡ false → false ≡ (a && b)
+fails a b e = rw e
+
+pub passes : (a b : Bool) → a ≡ true → b ≡ (a && b)
+passes a b e = rw e
+
+-- one must hold
+pub holds : (a b : Bool) → a ≡ true → true ≡ (a || b)
+holds a b e = rw e
+
+pub goes-on : (a b : Bool) → a ≡ false → b ≡ (a || b)
+goes-on a b e = rw e
