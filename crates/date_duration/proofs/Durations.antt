@@ -46,7 +46,28 @@ unfolding smallDays
 few-enough (pos n) h = same-test n 104249991374 (n * 86400) (2 ^ 53) (λ l. omega arith) (λ l. omega arith)
 few-enough (negsuc n) h = sym (lt-ltb (suc n * 86400) (2 ^ 53) (omega (arith, ints)))
 
--- the parts of a valid duration can be turned
+-- the parts of a valid duration are small
+pub record Bounded (d : DateDuration) : Type 0 where
+  pub years-low : natAbs (d .years) < 2 ^ 32
+  pub months-low : natAbs (d .months) < 2 ^ 32
+  pub weeks-low : natAbs (d .weeks) < 2 ^ 32
+  pub days-low : natAbs (d .days) < 2 ^ 38
+
+pub bounded : (d : DateDuration) → isValidDuration d ≡ true → Bounded d
+unfolding isValidDuration allSmall small smallDays
+bounded d e =
+    let s : allSmall d ≡ true = both (allSmall d) (not (anyBelow d && anyAbove d)) e .0 in
+    let a = both (small (d .years)) (small (d .months) && (small (d .weeks) && smallDays (d .days))) s in
+    let b = both (small (d .months)) (small (d .weeks) && smallDays (d .days)) (a .1) in
+    let c = both (small (d .weeks)) (smallDays (d .days)) (b .1) in
+    record {
+      years-low = ltb-true (natAbs (d .years)) (2 ^ 32) (a .0);
+      months-low = ltb-true (natAbs (d .months)) (2 ^ 32) (b .0);
+      weeks-low = ltb-true (natAbs (d .weeks)) (2 ^ 32) (c .0);
+      days-low = omega (arith, ltb-true (natAbs (d .days) * 86400) (2 ^ 53) (c .1));
+    }
+
+-- and can be turned
 pub record Turnable (d : DateDuration) : Type 0 where
   pub years-small : natAbs (d .years) < 2 ^ 62
   pub months-small : natAbs (d .months) < 2 ^ 62
@@ -54,17 +75,13 @@ pub record Turnable (d : DateDuration) : Type 0 where
   pub days-small : natAbs (d .days) < 2 ^ 62
 
 pub turnable : (d : DateDuration) → isValidDuration d ≡ true → Turnable d
-unfolding isValidDuration allSmall small smallDays
 turnable d e =
-    let s : allSmall d ≡ true = both (allSmall d) (not (anyBelow d && anyAbove d)) e .0 in
-    let a = both (small (d .years)) (small (d .months) && (small (d .weeks) && smallDays (d .days))) s in
-    let b = both (small (d .months)) (small (d .weeks) && smallDays (d .days)) (a .1) in
-    let c = both (small (d .weeks)) (smallDays (d .days)) (b .1) in
+    let b = bounded d e in
     record {
-      years-small = omega (arith, ltb-true (natAbs (d .years)) (2 ^ 32) (a .0));
-      months-small = omega (arith, ltb-true (natAbs (d .months)) (2 ^ 32) (b .0));
-      weeks-small = omega (arith, ltb-true (natAbs (d .weeks)) (2 ^ 32) (c .0));
-      days-small = omega (arith, ltb-true (natAbs (d .days) * 86400) (2 ^ 53) (c .1));
+      years-small = omega (arith, b .years-low);
+      months-small = omega (arith, b .months-low);
+      weeks-small = omega (arith, b .weeks-low);
+      days-small = omega (arith, b .days-low);
     }
 
 -- ---- validity

@@ -177,13 +177,13 @@ unfolding isoDaysInMonth
 length-of-year y u m r leap e f g = rw (e, ← f, g)
 
 -- the day number of a valid date, from the natural of the first day of its month
-pub day-of-date : (y z : ℤ) (m d u n : ℕ) → Valid y m d → y ≡ u ⊖ yearBias → n ⊖ dayBias ≡ dayFromMonth (u ⊖ yearBias) (m - 1) →
-    z ≡ (n + d) ⊖ (dayBias + 1) → z ≡ epochDays (date y m d)
-day-of-date y z m d u n v e f g =
-    g ∙ ⊖-same (n + d) (dayBias + 1) (n + d + 0) (dayBias + 0 + 1) (omega arith) ∙
-    go ∙ sym (plain-month y m (pos d) (v .month-low) (v .month-high))
+pub day-of-date : (y : ℤ) (m d u n : ℕ) → Valid y m d → y ≡ u ⊖ yearBias → n ⊖ dayBias ≡ dayFromMonth (u ⊖ yearBias) (m - 1) →
+    epochDays (date y m d) ≡ (n + d) ⊖ (dayBias + 1)
+day-of-date y m d u n v e f =
+    plain-month y m (pos d) (v .month-low) (v .month-high) ∙ go ∙
+    ⊖-same (n + d + 0) (dayBias + 0 + 1) (n + d) (dayBias + 1) (omega arith)
   where
-    go : (n + d + 0) ⊖ (dayBias + 0 + 1) ≡ dayFromMonth y (m - 1) +ℤ pos d -ℤ pos 1
+    go : dayFromMonth y (m - 1) +ℤ pos d -ℤ pos 1 ≡ (n + d + 0) ⊖ (dayBias + 0 + 1)
     go = rw (e, ← f) (simp whole (omega arith))
 
 -- the exact count that balancing goes by: the first day of the month, from the code's naturals, plus day, minus 1

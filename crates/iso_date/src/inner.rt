@@ -196,14 +196,21 @@ pub fn clamp_to(high: u8, n: u8) -> u8
     n
 }
 
+// The day number of a date whose fields are valid, as a natural.
+pub fn day_up(date: IsoDate) -> u64
+    requires { ⌜ isValidISODate date ≡ true ⌝ }
+    ensures { λ r. ⌜ (epochDays date ≡ r ⊖ (dayBias + 1)) × (r < 2 ^ 51) ⌝ }
+{
+    let u = year_up(date.year);
+    month_start(u, date.month as u64 - 1) + date.day as u64
+}
+
 // The day number of a date whose fields are valid.
 pub fn epoch_days(date: IsoDate) -> i64
     requires { ⌜ isValidISODate date ≡ true ⌝ }
     ensures { λ r. ⌜ r ≡ epochDays date ⌝ }
 {
-    let u = year_up(date.year);
-    let n = month_start(u, date.month as u64 - 1) + date.day as u64;
-    whole::inner::lower(n, DAY_BIAS + 1)
+    whole::inner::lower(day_up(date), DAY_BIAS + 1)
 }
 
 // Whether a date whose fields are valid lies within the date limits.

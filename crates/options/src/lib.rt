@@ -1,4 +1,6 @@
 // The options that calls take by value.
+ghost use mathlib.Core.Path.{_≡_};
+ghost use Rattle.options.specs.Units.{unitRank};
 
 // What becomes of a field that is out of its range.
 pub enum Overflow {
@@ -18,4 +20,24 @@ pub enum Unit {
     Millisecond,
     Microsecond,
     Nanosecond,
+}
+
+impl Unit {
+    // A unit's place from the largest on.
+    pub fn rank(self) -> u8
+        ensures { λ r. ⌜ r ≡ unitRank self ⌝ }
+    {
+        match self {
+            Unit::Year => 0,
+            Unit::Month => 1,
+            Unit::Week => 2,
+            Unit::Day => 3,
+            Unit::Hour => 4,
+            Unit::Minute => 5,
+            Unit::Second => 6,
+            Unit::Millisecond => 7,
+            Unit::Microsecond => 8,
+            Unit::Nanosecond => 9,
+        }
+    }
 }

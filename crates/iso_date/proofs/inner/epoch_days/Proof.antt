@@ -1,34 +1,12 @@
--- The first day of the month and the day add up, at the bias.
+-- The day number at the bias, and the bias taken off.
 use borrow.Author.Needs.{needs}
-use native.Mathlib.Omega.{arith}
-use mathlib.Core.Path.{_≡_, sym, _∙_}
+use mathlib.Core.Path.{sym, _∙_}
 use mir.Facts.{toZ-ofZ}
-use mir.Syntax.{w32}
-use mir.Val.{toZ, ofZ}
-use Rattle.iso_date.proofs.Answers.{day-of-date}
-use Rattle.iso_date.proofs.Dates.{read-valid}
 use Rattle.iso_date.proofs.inner.epoch_days.Statement.{statement}
 use Rattle.iso_date.proofs.inner.epoch_days.Tie as tie
 
-year-up-requires : tie.Need-year-up-requires
-year-up-requires c κs = search needs
-
-cast-month-start : tie.Need-cast-month-start
-cast-month-start c = search needs
-
-sub-month-start : tie.Need-sub-month-start
-sub-month-start c = read-valid _ _ _ (c .before .before .before .pre) .month-low
-
-month-start-requires : tie.Need-month-start-requires
-month-start-requires c κs =
-    let v = read-valid _ _ _ (c .before .before .before .pre) in
-    (omega (arith, c .before .year-up .ensures), omega (arith, v .month-high))
-
-cast-n : tie.Need-cast-n
-cast-n c = search needs
-
-add-n : tie.Need-add-n
-add-n c = search needs
+day-up-requires : tie.Need-day-up-requires
+day-up-requires c κs = search needs
 
 add-lower : tie.Need-add-lower
 add-lower c = search needs
@@ -37,24 +15,7 @@ lower-requires : tie.Need-lower-requires
 lower-requires c κs = search needs
 
 returns : tie.Need-returns
-returns c =
-    let b = c .before .before .before .before in
-    let s = b .before .before in
-    let d = s .args .date in
-    let back : toZ w32 (ofZ w32 (d .year)) ≡ d .year = search needs in
-    day-of-date (d .year) _ (d .month) (d .day) _ _ (read-valid _ _ _ (s .pre)) (sym back ∙ b .year-up .ensures .0)
-    (c .before .before .month-start .ensures .0) (toZ-ofZ (record { sfits = c .lower .ok }) ∙ c .lower .ensures)
+returns c = toZ-ofZ (record { sfits = c .lower .ok }) ∙ c .lower .ensures ∙ sym (c .before .day-up .ensures .0)
 
 pub epoch-days-spec : {M : Type 1} → statement M
-epoch-days-spec =
-    tie.close
-    (tie.spec
-    year-up-requires
-    cast-month-start
-    sub-month-start
-    month-start-requires
-    cast-n
-    add-n
-    add-lower
-    lower-requires
-    returns)
+epoch-days-spec = tie.close (tie.spec day-up-requires add-lower lower-requires returns)

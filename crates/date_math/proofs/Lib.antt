@@ -1,0 +1,9 @@
+pub mod Kept
+pub mod Most
+pub mod Order
+pub mod Places
+pub mod Rest
+pub mod Sums
+pub mod Theorems
+pub mod Steps
+pub mod Until

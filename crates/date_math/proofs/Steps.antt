@@ -1,0 +1,164 @@
+-- What the steps of the code do to naturals at their biases, over plain variables: the proofs of `inner` cite these. Assumes nothing.
+use Prim.Native.Nat.{ℕ, _+_, _-_, _*_, _/_, _%_, _^_, _≤_, _<_}
+use native.Mathlib.Omega.{arith}
+use mathlib.Core.Path.{_≡_, refl, sym, _∙_, ap}
+use mathlib.Core.Bool.{Bool, true, false}
+use borrow.Author.Tests.{eq-eqb, ne-eqb, le-leb, lt-leb}
+use lib.Dec.{eqb, leb}
+use lib.ListN.{getD}
+use lib.IntN.{ℤ, pos, negsuc, negℤ, natAbs, _+ℤ_, _-ℤ_, _*ℤ_}
+use lib.Signed.{_≤ℤ_, _<ℤ_}
+use Rattle.whole.specs.Whole.{_⊖_, clampZ}
+use Rattle.whole.proofs.Laws.{up, dn, ints, whole, read-add, read-diff, read-times, fdiv-unique}
+use Rattle.iso_date.specs.Proposal.{date, epochDays, monthLengths, leapYear, isoDaysInMonth, dayFromMonth, constrainISODate, clampTo}
+use Rattle.iso_date.specs.Paper.{dayToDate}
+use Rattle.iso_date.specs.Inner.{yearBias, monthBias, dayBias, Balances}
+use Rattle.iso_date.proofs.Answers.{length-of-year, constrained-valid, day-of-date}
+use Rattle.iso_date.proofs.Dates.{read-valid}
+use Rattle.options.specs.declared.Unit.{Unit as DateUnit}
+use Rattle.options.specs.Units.{unitRank}
+use Rattle.date_math.specs.Proposal.{movedBy, directed, restStart}
+use Rattle.date_math.specs.Paper.{clampedYear}
+use Rattle.date_math.specs.Inner.{placeOf, placeBias, yearsIn, monthsIn, weeksIn}
+
+-- ---- a count with its sign
+
+pub shifted-is : (forward : Bool) (from months : ℕ) → forward ≡ true → (from + months) ⊖ 0 ≡ (from ⊖ 0) +ℤ directed forward months
+shifted-is forward from months e = rw e (simp whole (omega arith))
+
+pub shifted-back : (forward : Bool) (from months : ℕ) → forward ≡ false → months ≤ from →
+    (from - months) ⊖ 0 ≡ (from ⊖ 0) +ℤ directed forward months
+shifted-back forward from months e h = rw e (simp whole (omega arith))
+
+pub directed-up : (forward : Bool) (n : ℕ) → forward ≡ true → pos n ≡ directed forward n
+directed-up forward n e = rw e
+
+pub directed-down : (forward : Bool) (n : ℕ) → forward ≡ false → negℤ (pos n) ≡ directed forward n
+directed-down forward n e = rw e
+
+-- ---- counts within a distance, by the unit's rank
+
+module _ (unit : DateUnit) (r : ℕ) (e : r ≡ unitRank unit) where
+  pub weeks-yes : (n : ℕ) → r ≡ 2 → n / 7 ≡ weeksIn unit n
+  unfolding weeksIn
+  weeks-yes n h = let t : eqb (unitRank unit) 2 ≡ true = eq-eqb (unitRank unit) 2 (sym e ∙ h) in rw t
+
+  pub weeks-no : (n : ℕ) → (r ≡ 2 → ⊥) → 0 ≡ weeksIn unit n
+  unfolding weeksIn
+  weeks-no n h = let t : eqb (unitRank unit) 2 ≡ false = ne-eqb (unitRank unit) 2 (λ f. h (e ∙ f)) in rw t
+
+  pub none-tried : (gap : ℕ) → 1 < r → (0 ≡ yearsIn unit gap) × (0 ≡ monthsIn unit gap)
+  unfolding yearsIn monthsIn
+  none-tried gap h =
+      let s : eqb (unitRank unit) 0 ≡ false = ne-eqb (unitRank unit) 0 (λ f. let z : ⊥ = omega arith in z) in
+      let t : leb (unitRank unit) 1 ≡ false = lt-leb (unitRank unit) 1 (omega arith) in
+      (rw s, rw t)
+
+  pub years-tried : (gap y m : ℕ) → r ≡ 0 → y ≡ gap / 384 → m ≡ (gap - 384 * y) / 32 → (y ≡ yearsIn unit gap) × (m ≡ monthsIn unit gap)
+  unfolding yearsIn monthsIn
+  years-tried gap y m h f g =
+      let s : eqb (unitRank unit) 0 ≡ true = eq-eqb (unitRank unit) 0 (sym e ∙ h) in
+      let t : leb (unitRank unit) 1 ≡ true = le-leb (unitRank unit) 1 (omega arith) in
+      (rw s f, rw (s, t) (rw f at g))
+
+  -- 12 months of 32 places are a year of 384
+  pub months-tried : (gap y m : ℕ) → r ≤ 1 → (r ≡ 0 → ⊥) → y ≡ gap / 384 → m ≡ (gap - 384 * y) / 32 →
+      (0 ≡ yearsIn unit gap) × (12 * y + m ≡ monthsIn unit gap)
+  unfolding yearsIn monthsIn
+  months-tried gap y m l h f g =
+      let s : eqb (unitRank unit) 0 ≡ false = ne-eqb (unitRank unit) 0 (λ i. h (e ∙ i)) in
+      let t : leb (unitRank unit) 1 ≡ true = le-leb (unitRank unit) 1 (omega arith) in
+      (rw s, rw (s, t) (omega arith))
+
+-- ---- places
+
+pub place-is : (y : ℤ) (u m d : ℕ) → y ≡ u ⊖ yearBias → placeOf (date y m d) ≡ (384 * u + 32 * m + d) ⊖ placeBias
+unfolding placeOf
+place-is y u m d e =
+    omega (arith, ints, read-times 384 y, read-diff u yearBias, read-add (pos 384 *ℤ y) (pos (32 * m + d)), read-diff (384 * u + 32 * m + d) placeBias)
+
+-- ---- numbers of a bounded size, raised
+
+size-parts : (z : ℤ) → natAbs z ≡ up z + dn z
+size-parts (pos n) = omega arith
+size-parts (negsuc n) = omega arith
+
+pub raise-room : (z : ℤ) (k : ℕ) → natAbs z < k → k < 2 ^ 62 → (k < 2 ^ 63) × (((0 ⊖ k) ≤ℤ z) × (z <ℤ ((2 ^ 63) ⊖ k)))
+raise-room z k h l = omega (arith, ints, size-parts z, read-diff 0 k, read-diff (2 ^ 63) k)
+
+pub raised-within : (z : ℤ) (r k n : ℕ) → z ≡ r ⊖ k → natAbs z < n → n ≤ k → (k < r + n) × (r < k + n)
+raised-within z r k n e h l = omega (arith, ints, size-parts z, read-diff r k)
+
+-- ---- the sum of days
+
+pub days-sum : (x n w z : ℤ) (a b c : ℕ) → x ≡ a ⊖ (dayBias + 1) → n ≡ b ⊖ (2 ^ 38) → w ≡ c ⊖ (2 ^ 32) →
+    z ≡ (a + b + 7 * c) ⊖ (dayBias + 1 + 2 ^ 38 + 7 * 2 ^ 32) → dayToDate z ≡ dayToDate (x +ℤ (n +ℤ pos 7 *ℤ w))
+days-sum x n w z a b c e f g h =
+    ap dayToDate (omega (
+      arith,
+      ints,
+      read-diff a (dayBias + 1),
+      read-diff b (2 ^ 38),
+      read-diff c (2 ^ 32),
+      read-diff (a + b + 7 * c) (dayBias + 1 + 2 ^ 38 + 7 * 2 ^ 32),
+      read-times 7 w,
+      read-add n (pos 7 *ℤ w),
+      read-add x (n +ℤ pos 7 *ℤ w),
+    ))
+
+-- ---- a date moved by years and months
+
+pub moved-is : (y years months z : ℤ) (m d u p q year index : ℕ) → y ≡ u ⊖ yearBias → years ≡ p ⊖ (2 ^ 32) → months ≡ q ⊖ monthBias →
+    2 ^ 32 ≤ u + p → Balances (u + p - 2 ^ 32) (q + m) year index →
+    z ≡ clampZ (year ⊖ yearBias) (negℤ (pos (2 ^ 31))) (pos (2 ^ 31 - 1)) →
+    date z (index + 1) d ≡ clampedYear (movedBy (date y m d) years months)
+unfolding movedBy
+moved-is y years months z m d u p q year index e f g h b i =
+    let j : y +ℤ years ≡ (u + p - 2 ^ 32) ⊖ yearBias =
+    omega (arith, ints, read-diff u yearBias, read-diff p (2 ^ 32), read-add y years, read-diff (u + p - 2 ^ 32) yearBias) in
+    let k : pos m +ℤ months ≡ (q + m) ⊖ monthBias = omega (arith, ints, read-diff q monthBias, read-add (pos m) months, read-diff (q + m) monthBias) in
+    rw (i, b .year-is, b .month-is, j, k)
+
+-- ---- the start of the rest
+
+-- k counts the months from month 0 of year 0 at the bias, so that year and month are its quotient and remainder by 12
+moved-months : (y s t : ℤ) (m d u k : ℕ) → 1 ≤ m → y ≡ u ⊖ yearBias → s ≡ pos 0 → k ⊖ 0 ≡ ((12 * u + (m - 1)) ⊖ 0) +ℤ t →
+    movedBy (date y m d) s t ≡ date ((k / 12) ⊖ yearBias) (k % 12 + 1) d
+unfolding movedBy
+moved-months y s t m d u k h e f g =
+    let x : ℤ = pos m +ℤ t -ℤ pos 1 in
+    let q : ℤ = (k / 12) ⊖ u in
+    let n = fdiv-unique x q 12 (k % 12) (omega arith)
+    (omega (
+      arith,
+      ints,
+      read-diff k 0,
+      read-diff (12 * u + (m - 1)) 0,
+      read-add ((12 * u + (m - 1)) ⊖ 0) t,
+      read-add (pos m) t,
+      read-add (pos m +ℤ t) (negℤ (pos 1)),
+      read-diff (k / 12) u,
+      read-times 12 q,
+      read-add (pos 12 *ℤ q) (pos (k % 12)),
+    )) in
+    let z : y +ℤ s +ℤ q ≡ (k / 12) ⊖ yearBias =
+    omega (arith, ints, read-diff u yearBias, read-add y s, read-diff (k / 12) u, read-add (y +ℤ s) q, read-diff (k / 12) yearBias) in
+    rw (n .0, n .1, z)
+
+directed-none : (forward : Bool) → directed forward 0 ≡ pos 0
+directed-none true = refl
+directed-none false = refl
+
+pub rest-start-is : (forward leap : Bool) (y : ℤ) (m d u k months n most s : ℕ) → 1 ≤ m → y ≡ u ⊖ yearBias →
+    k ⊖ 0 ≡ ((12 * u + (m - 1)) ⊖ 0) +ℤ directed forward months → leap ≡ leapYear ((k / 12) ⊖ yearBias) →
+    most ≡ getD (monthLengths leap) (k % 12 + 1 - 1) 0 → n ⊖ dayBias ≡ dayFromMonth ((k / 12) ⊖ yearBias) (k % 12) →
+    s ≡ clampTo most d → 1 ≤ s → s ≤ most → epochDays (restStart forward (date y m d) 0 months) ≡ (n + s) ⊖ (dayBias + 1)
+unfolding restStart
+rest-start-is forward leap y m d u k months n most s h e f g i j l low high =
+    let z : ℤ = (k / 12) ⊖ yearBias in
+    let r : ℕ = k % 12 + 1 in
+    let o : most ≡ isoDaysInMonth z r = length-of-year z (k / 12) r most leap refl g i in
+    let c = constrained-valid z r d r s (omega arith) (omega arith) (omega arith) (rw o at l) low (rw o at high) in
+    let b : r - 1 ≡ k % 12 = omega arith in
+    ap epochDays (ap constrainISODate (moved-months y (directed forward 0) (directed forward months) m d u k h e (directed-none forward) f) ∙ sym (c .0)) ∙
+    day-of-date z r s (k / 12) n (read-valid z r s (c .1)) refl (rw b j)

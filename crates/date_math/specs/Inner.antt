@@ -1,0 +1,29 @@
+-- The same counts as naturals, for the contracts inside: a triple of year, month and day as one number, 32 days to a month and 12
+-- months to a year, so that a day that its month does not have keeps its place. No public contract cites this.
+use Prim.Native.Nat.{ℕ, _+_, _-_, _*_, _/_}
+use mathlib.Core.Bool.{cond}
+use lib.IntN.{ℤ, pos, _+ℤ_, _*ℤ_}
+use Rattle.iso_date.specs.declared.IsoDate.{IsoDate}
+use Rattle.iso_date.specs.Inner.{yearBias}
+use Rattle.options.specs.declared.Unit.{Unit as DateUnit}
+use Rattle.date_math.specs.Proposal.{countsYears, countsMonths, countsWeeks}
+
+unfoldable pub placeOf : IsoDate → ℤ
+placeOf d = pos 384 *ℤ (d .year) +ℤ pos (32 * (d .month) + (d .day))
+
+abbrev pub placeBias : ℕ
+placeBias = 384 * yearBias
+
+-- how many years and months lie within a distance of places, and how many weeks within one of days
+unfoldable pub yearsIn : DateUnit → ℕ → ℕ
+yearsIn unit gap = cond (countsYears unit) (gap / 384) 0
+
+unfoldable pub monthsIn : DateUnit → ℕ → ℕ
+monthsIn unit gap = cond (countsMonths unit) ((gap - 384 * yearsIn unit gap) / 32) 0
+
+unfoldable pub weeksIn : DateUnit → ℕ → ℕ
+weeksIn unit rest = cond (countsWeeks unit) (rest / 7) 0
+
+-- how far apart two naturals are
+abbrev pub apart : ℕ → ℕ → ℕ
+apart a b = (a - b) + (b - a)

@@ -1,0 +1,4 @@
+pub mod Inner
+pub mod Paper
+pub mod Proposal
+pub mod Rules

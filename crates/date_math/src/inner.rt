@@ -1,0 +1,233 @@
+// The steps of the sum and of the difference, on naturals. A triple of year, month and day is one number here, its place: 32 days to a
+// month and 12 months to a year, so that a day that its month does not have keeps its place, a month further is 32 places and a year
+// further 384.
+use date_duration::DateDuration;
+use iso_date::DateResult;
+use iso_date::IsoDate;
+use iso_date::LimitResult;
+use iso_date::inner::MONTH_BIAS;
+use iso_date::inner::day_up;
+use iso_date::inner::month_start;
+use iso_date::inner::year_up;
+use options::Overflow;
+use options::Unit;
+use whole::inner::raise;
+ghost use mathlib.Core.Path.{_≡_};
+ghost use mathlib.Core.Bool.{true, not};
+ghost use Prim.Native.Nat.{_+_, _-_, _*_, _/_, _^_, _<_, _≤_};
+ghost use lib.Dec.{leb};
+ghost use lib.IntN.{pos, natAbs, _+ℤ_, _*ℤ_};
+ghost use Rattle.refusal.specs.Answer.{numberOf};
+ghost use Rattle.whole.specs.Whole.{_⊖_};
+ghost use Rattle.iso_date.specs.Proposal.{isValidISODate, epochDays};
+ghost use Rattle.iso_date.specs.Paper.{ofDate, ofLimit, regulateDate, dayToDate};
+ghost use Rattle.iso_date.specs.Inner.{dayBias};
+ghost use Rattle.date_duration.specs.Proposal.{duration};
+ghost use Rattle.date_math.specs.Proposal.{movedBy, directed, restStart, countsWeeks, calendarDateUntil};
+ghost use Rattle.date_math.specs.Paper.{clampedYear};
+ghost use Rattle.date_math.specs.Inner.{placeOf, placeBias, yearsIn, monthsIn, weeksIn, apart};
+
+const PLACES_PER_MONTH: u64 = 32;
+
+const PLACES_PER_YEAR: u64 = 384;
+
+// Years, months and weeks of a duration are below this in size, and its days below the other.
+const PART_BIAS: u64 = 4_294_967_296;
+
+const DAYS_BIAS: u64 = 274_877_906_944;
+
+// The number that a limit test refuses with, 0 where it does not.
+pub fn refused_by(limit: LimitResult) -> u8
+    ensures { λ r. ⌜ r ≡ numberOf (ofLimit limit) ⌝ }
+{
+    match limit {
+        LimitResult::Within => 0,
+        LimitResult::Refused(n) => n,
+    }
+}
+
+// A date moved by years and months, the year clamped to 32 bits, and regulated.
+pub fn moved(date: IsoDate, years: i64, months: i64, overflow: Overflow) -> DateResult
+    requires { ⌜ (natAbs years < 2 ^ 32) × (natAbs months < 2 ^ 32) ⌝ }
+    ensures { λ r. ⌜ ofDate r ≡ regulateDate (clampedYear (movedBy date years months)) overflow ⌝ }
+{
+    let u = year_up(date.year) + raise(years, PART_BIAS) - PART_BIAS;
+    let m = raise(months, MONTH_BIAS) + date.month as u64;
+    let b = iso_date::inner::balance_up(u, m);
+    IsoDate::regulate(
+        iso_date::inner::year_down(b.year),
+        (b.index + 1) as u8,
+        date.day,
+        overflow,
+    )
+}
+
+// A date moved by weeks and days: 4 past the balanced range.
+pub fn add_days(date: IsoDate, weeks: i64, days: i64) -> DateResult
+    requires { ⌜ (isValidISODate date ≡ true) × ((natAbs weeks < 2 ^ 32) × (natAbs days < 2 ^ 38)) ⌝ }
+    ensures { λ r. ⌜ ofDate r ≡ dayToDate (epochDays date +ℤ (days +ℤ pos 7 *ℤ weeks)) ⌝ }
+{
+    let n = day_up(date) + raise(days, DAYS_BIAS) + 7 * raise(weeks, PART_BIAS);
+    IsoDate::from_epoch_days(whole::inner::lower(
+        n,
+        iso_date::inner::DAY_BIAS + 1 + DAYS_BIAS + 7 * PART_BIAS,
+    ))
+}
+
+// The place of a date.
+pub fn place(date: IsoDate) -> u64
+    requires { ⌜ isValidISODate date ≡ true ⌝ }
+    ensures { λ r. ⌜ (placeOf date ≡ r ⊖ placeBias) × ((2 ^ 41 ≤ r) × (r < 2 ^ 42)) ⌝ }
+{
+    PLACES_PER_YEAR * year_up(date.year) + PLACES_PER_MONTH * date.month as u64 + date.day as u64
+}
+
+fn distance(a: u64, b: u64) -> u64
+    ensures { λ r. ⌜ r ≡ apart a b ⌝ }
+{
+    if a < b {
+        return b - a;
+    }
+    a - b
+}
+
+// The candidate years are tried from one less than the years that the dates are apart, which cannot have passed.
+fn kept_years(gap: u64, years: u64) -> u64
+    requires { ⌜ (384 * years < gap + 384) × (gap < 2 ^ 42) ⌝ }
+    ensures { λ r. ⌜ r ≡ gap / 384 ⌝ }
+{
+    let mut candidate = years;
+    if candidate != 0 {
+        candidate -= 1;
+    }
+    loop {
+        if gap < PLACES_PER_YEAR * candidate {
+            break candidate - 1;
+        }
+        candidate += 1;
+    }
+}
+
+// The candidate months are tried from one on.
+fn kept_months(gap: u64) -> u64
+    requires { ⌜ gap < 384 ⌝ }
+    ensures { λ r. ⌜ r ≡ gap / 32 ⌝ }
+{
+    let mut candidate = 1;
+    loop {
+        if gap < PLACES_PER_MONTH * candidate {
+            break candidate - 1;
+        }
+        candidate += 1;
+    }
+}
+
+// What the trial of years and months found.
+pub struct Trial {
+    pub years: u64,
+    pub months: u64,
+}
+
+// The years and months within a gap of places between dates that are so many years apart. Under month the years join the months.
+fn tried(unit: Unit, gap: u64, years: u64) -> Trial
+    requires { ⌜ (384 * years < gap + 384) × (gap < 2 ^ 42) ⌝ }
+    ensures { λ r. ⌜ ((r .years ≡ yearsIn unit gap) × (r .months ≡ monthsIn unit gap)) × (384 * (r .years) + 32 * (r .months) ≤ gap) ⌝ }
+{
+    let rank = unit.rank();
+    if rank > 1 {
+        return Trial {
+            years: 0,
+            months: 0,
+        };
+    }
+    let found = kept_years(gap, years);
+    let months = kept_months(gap - PLACES_PER_YEAR * found);
+    if rank == 0 {
+        return Trial {
+            years: found,
+            months,
+        };
+    }
+    Trial {
+        years: 0,
+        months: 12 * found + months,
+    }
+}
+
+// A count of months moved on.
+fn shifted(forward: bool, from: u64, months: u64) -> u64
+    requires { ⌜ (months ≤ from) × (from < 2 ^ 60) ⌝ }
+    ensures { λ r. ⌜ ((r ⊖ 0) ≡ (from ⊖ 0) +ℤ directed forward months) × (r ≤ from + months) ⌝ }
+{
+    if forward {
+        return from + months;
+    }
+    from - months
+}
+
+// The day number of the start of the rest, as a natural: the date moved by months, its day constrained.
+fn rest_start(date: IsoDate, forward: bool, months: u64) -> u64
+    requires { ⌜ (isValidISODate date ≡ true) × (months < 2 ^ 36) ⌝ }
+    ensures { λ r. ⌜ (epochDays (restStart forward date 0 months) ≡ r ⊖ (dayBias + 1)) × (r < 2 ^ 51) ⌝ }
+{
+    let month = shifted(
+        forward,
+        12 * year_up(date.year) + (date.month as u64 - 1),
+        months,
+    );
+    let u = month / 12;
+    let i = month % 12;
+    let leap = iso_date::inner::is_leap(u);
+    let most = iso_date::inner::month_days(leap, (i + 1) as u8);
+    month_start(u, i) + iso_date::inner::clamp_to(most, date.day) as u64
+}
+
+// A size with its sign.
+fn signed(forward: bool, n: u64) -> i64
+    requires { ⌜ n < 2 ^ 63 ⌝ }
+    ensures { λ r. ⌜ r ≡ directed forward n ⌝ }
+{
+    if forward {
+        return whole::inner::plus(n);
+    }
+    whole::inner::negated(n)
+}
+
+// The weeks of a rest of days.
+fn weeks_of(unit: Unit, rest: u64) -> u64
+    ensures { λ r. ⌜ (r ≡ weeksIn unit rest) × (7 * r ≤ rest) ⌝ }
+{
+    if unit.rank() == 2 {
+        return rest / 7;
+    }
+    0
+}
+
+// What was found as a duration.
+fn parts(forward: bool, found: Trial, weeks: u64, days: u64) -> DateDuration
+    requires { ⌜ (((found .years) < 2 ^ 63) × ((found .months) < 2 ^ 63)) × ((weeks < 2 ^ 63) × (days < 2 ^ 63)) ⌝ }
+    ensures { λ r. ⌜ r ≡ duration (directed forward (found .years)) (directed forward (found .months)) (directed forward weeks) (directed forward days) ⌝ }
+{
+    DateDuration {
+        years: signed(forward, found.years),
+        months: signed(forward, found.months),
+        weeks: signed(forward, weeks),
+        days: signed(forward, days),
+    }
+}
+
+// The difference of two dates whose fields are valid.
+pub fn difference(one: IsoDate, two: IsoDate, unit: Unit) -> DateDuration
+    requires { ⌜ (isValidISODate one ≡ true) × (isValidISODate two ≡ true) ⌝ }
+    ensures { λ r. ⌜ r ≡ calendarDateUntil one two unit ⌝ }
+{
+    let from = place(one);
+    let to = place(two);
+    let forward = from <= to;
+    let years = distance(year_up(one.year), year_up(two.year));
+    let found = tried(unit, distance(from, to), years);
+    let start = rest_start(one, forward, 12 * found.years + found.months);
+    let rest = distance(start, day_up(two));
+    let weeks = weeks_of(unit, rest);
+    parts(forward, found, weeks, rest - 7 * weeks)
+}

@@ -1,0 +1,55 @@
+// Sum and difference of dates.
+pub mod inner;
+
+use date_duration::DateDuration;
+use date_duration::DurationResult;
+use iso_date::DateResult;
+use iso_date::IsoDate;
+use iso_date::LimitResult;
+use options::Overflow;
+use options::Unit;
+ghost use mathlib.Core.Path.{_≡_};
+ghost use Rattle.iso_date.specs.Paper.{ofDate};
+ghost use Rattle.date_duration.specs.Paper.{ofDuration};
+ghost use Rattle.date_math.specs.Paper.{dateSum, dateDifference};
+
+// A date moved by a duration: the date's fields (1) and limits (2), the duration (8), then the steps. Years and months first; the date
+// that they lead to is regulated (1) and held to the limits (2) before weeks and days are added, which ends with the day count (4).
+pub fn add_date_duration(date: IsoDate, duration: DateDuration, overflow: Overflow) -> DateResult
+    ensures { λ r. ⌜ ofDate r ≡ dateSum date duration overflow ⌝ }
+{
+    let checked = date.check_within_limits();
+    let LimitResult::Within = checked else {
+        return DateResult::Refused(inner::refused_by(checked));
+    };
+    if !duration.is_valid() {
+        return DateResult::Refused(refusal::DURATION);
+    }
+    let regulated = inner::moved(date, duration.years, duration.months, overflow);
+    let DateResult::Date(start) = regulated else {
+        return regulated;
+    };
+    let LimitResult::Within = start.check_within_limits() else {
+        return DateResult::Refused(refusal::DATE_LIMITS);
+    };
+    inner::add_days(start, duration.weeks, duration.days)
+}
+
+// The years, months, weeks and days from one date to another, as far as the largest unit goes: the first date's fields (1) and limits
+// (2), the second's, then the unit (5).
+pub fn diff_iso_date(one: IsoDate, two: IsoDate, unit: Unit) -> DurationResult
+    ensures { λ r. ⌜ ofDuration r ≡ dateDifference one two unit ⌝ }
+{
+    let first = one.check_within_limits();
+    let LimitResult::Within = first else {
+        return DurationResult::Refused(inner::refused_by(first));
+    };
+    let second = two.check_within_limits();
+    let LimitResult::Within = second else {
+        return DurationResult::Refused(inner::refused_by(second));
+    };
+    if unit.rank() > 3 {
+        return DurationResult::Refused(refusal::UNIT);
+    }
+    DurationResult::Duration(inner::difference(one, two, unit))
+}
