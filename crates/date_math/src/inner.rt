@@ -82,7 +82,7 @@ pub fn place(date: IsoDate) -> u64
     PLACES_PER_YEAR * year_up(date.year) + PLACES_PER_MONTH * date.month as u64 + date.day as u64
 }
 
-fn distance(a: u64, b: u64) -> u64
+pub fn distance(a: u64, b: u64) -> u64
     ensures { λ r. ⌜ r ≡ apart a b ⌝ }
 {
     if a < b {
@@ -183,7 +183,7 @@ fn rest_start(date: IsoDate, forward: bool, months: u64) -> u64
 }
 
 // A size with its sign.
-fn signed(forward: bool, n: u64) -> i64
+pub fn signed(forward: bool, n: u64) -> i64
     requires { ⌜ n < 2 ^ 63 ⌝ }
     ensures { λ r. ⌜ r ≡ directed forward n ⌝ }
 {
