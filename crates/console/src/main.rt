@@ -1,16 +1,16 @@
 // The console: reads requests from standard input to its end, and writes one line for each line read.
 //
-// How the bytes of an input are cut into lines, and what each line is answered, is proved in the crate `requests`. Here the bytes are
-// read and the answers written.
+// How the bytes of an input are cut into lines is proved in the crate `stream`, what each line is answered in `requests`. Here the
+// bytes are read and the answers written.
 use libc::STDIN_FILENO;
 use libc::STDOUT_FILENO;
-use requests::inner::Progress;
-use requests::inner::end_input;
-use requests::inner::take_lines;
+use stream::inner::Progress;
+use stream::inner::end_input;
+use stream::inner::take_lines;
 ghost use mathlib.Core.Path.{_≡_};
 ghost use Prim.Native.Nat.{_≤_};
 ghost use lib.ListN.{length};
-ghost use Rattle.requests.specs.Stream.{lineRoom, responseRoom, Keeps};
+ghost use Rattle.stream.specs.Stream.{lineRoom, responseRoom, Keeps};
 
 fn main() {
     let mut block = io::large_buffer();

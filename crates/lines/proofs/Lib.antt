@@ -5,3 +5,4 @@ pub mod Writing
 pub mod Digits
 pub mod Answers
 pub mod ReadBack
+pub mod Lengths

@@ -11,8 +11,8 @@ use Rattle.rounding.specs.Paper.{inSigned64, roundNumber, roundNumberAsIfPositi
 use Rattle.iso_time.specs.Proposal.{isValidTime, balanceTime, nanoseconds, unitLength, quantity, roundedUnits, roundTime, dividend, validIncrement}
 use Rattle.iso_time.specs.Paper.{allBounded, balanceTimeFields, roundedTime}
 use Rattle.requests.specs.Calls.{meaningOf}
-use Rattle.requests.specs.declared.Call.{Call}
-use Rattle.requests.specs.declared.Call.the-variants as C
+use Rattle.calls.specs.declared.Call.{Call}
+use Rattle.calls.specs.declared.Call.the-variants as C
 
 pub record Row : Type 0 where
   pub call : Call

@@ -2,19 +2,20 @@
 use Prim.Native.Nat.{ℕ, zero, suc, _+_, _≤_, _<_}
 use native.Mathlib.Omega.{arith}
 use native.Mathlib.Numerals.{add-one}
-use mathlib.Core.Path.{_≡_, refl, sym, _∙_, ap, ap₂}
+use mathlib.Core.Path.{_≡_, refl, sym, _∙_, ap}
 use mathlib.Core.Bool.{Bool, true, false, cond, _&&_}
 use mathlib.Core.List.{List, [], _∷_, _++_}
 use lib.ListN.{length, getD, take, drop, length-drop, drop-of-length-le}
 use lib.Dec.{eqb}
-use borrow.Author.Tests.{eq-eqb, eqb-true}
 use lib.Seq.{drop-cons}
 use lib.IntN.{ℤ, pos}
 use lib.Signed.{leZ, _≤ℤ_}
 use Rattle.whole.proofs.Laws.{ints}
-use Rattle.whole.proofs.Tests.{both}
 use Rattle.lines.specs.Text.{fields, Found, number, none, within, newline, answerText, questionText}
 use Rattle.lines.specs.Wrote.{Wrote}
+use Rattle.calls.specs.Names.{callIn, everyCall, isKnown}
+use Rattle.calls.specs.declared.Call.{Call}
+use Rattle.calls.specs.declared.Call.the-variants.{Unknown}
 use Rattle.options.specs.declared.Overflow.{Overflow}
 use Rattle.options.specs.declared.Overflow.the-variants.{Constrain, Reject}
 use Rattle.options.specs.declared.Unit.{Unit as TimeUnit}
@@ -22,13 +23,11 @@ use Rattle.options.specs.declared.Unit.the-variants as U
 use Rattle.rounding.specs.declared.RoundingMode.{RoundingMode}
 use Rattle.rounding.specs.declared.RoundingMode.the-variants as M
 use Rattle.iso_time.specs.declared.IsoTime.{IsoTime}
-use Rattle.requests.specs.Protocol.{bytes, sameBytes, Kind, Arguments, these, noArguments, also, arguments, Reply, question, answer, said, replyText}
-use Rattle.requests.specs.Calls.{units, modes, unitOf, modeOf, timeValues, partAt, nameOf, callIn, everyCall, isKnown, kindsOf, meaningOf, replyOf, replyTo, responseTo, overflowOf}
+use Rattle.requests.specs.Protocol.{Kind, Arguments, these, noArguments, also, arguments, Reply, question, answer, said, replyText}
+use Rattle.requests.specs.Calls.{units, modes, unitOf, modeOf, timeValues, partAt, kindsOf, meaningOf, replyOf, replyTo, responseTo, overflowOf}
 use Rattle.requests.specs.Meaning.{Says, readAs, collect, overflowNumber, unitNumber, modeNumber, choiceValues}
 use Rattle.date_duration.specs.declared.Part.the-variants.{Kept, Given}
 use Rattle.requests.specs.declared.read.Choice.{Choice}
-use Rattle.requests.specs.declared.Call.{Call}
-use Rattle.requests.specs.declared.Call.the-variants.{Unknown}
 use Rattle.requests.specs.declared.written.Written.{Written}
 
 -- ---- a number of a type lies between its bounds
@@ -230,34 +229,7 @@ time-same t a b c d e f p q r s u v = rw (p, q, r, s, u, v)
 pub two-same : (a b x y : ℤ) → a ≡ x → b ≡ y → answer 0 (a ∷ b ∷ []) ≡ answer 0 (x ∷ y ∷ [])
 two-same a b x y e f = rw (e, f)
 
--- ---- which call a name is
-
--- what `check::same` says of its answer
-abbrev pub SameAs : Bool → List ℕ → List ℕ → Type 0
-SameAs r a b = (r ≡ true → a ≡ b) × (a ≡ b → r ≡ true)
-
-same-refl : (a : List ℕ) → sameBytes a a ≡ true
-same-refl [] = refl
-same-refl (x ∷ a) = simp (eq-eqb x x refl, same-refl a)
-
-pub same-eq : (a b : List ℕ) → sameBytes a b ≡ true → a ≡ b
-same-eq [] [] e = refl
-same-eq [] (y ∷ b) e = let n : _≡_ {A = ℕ} 0 1 = cc in let f : ⊥ = omega arith in absurd f
-same-eq (x ∷ a) [] e = let n : _≡_ {A = ℕ} 0 1 = cc in let f : ⊥ = omega arith in absurd f
-same-eq (x ∷ a) (y ∷ b) e = let s = both (eqb x y) (sameBytes a b) e in ap₂ (λ (n : ℕ) (l : List ℕ). n ∷ l) (eqb-true x y (s .0)) (same-eq a b (s .1))
-
-module _ (c : Call) (cs : List Call) (name : List ℕ) (r : Bool) (said : SameAs r name (bytes (nameOf c))) where
-  pub this-call : r ≡ true → callIn (c ∷ cs) name ≡ c
-  unfolding callIn
-  this-call e = rw (said .0 e) (rw (same-refl (bytes (nameOf c))))
-
-  pub next-call : r ≡ false → callIn (c ∷ cs) name ≡ callIn cs name
-  unfolding callIn
-  next-call e = rw (other (sameBytes name (bytes (nameOf c))) refl)
-    where
-      other : (t : Bool) → sameBytes name (bytes (nameOf c)) ≡ t → sameBytes name (bytes (nameOf c)) ≡ false
-      other true f = let n : _≡_ {A = ℕ} 0 1 = cc (said .1 (same-eq name (bytes (nameOf c)) f)) in let g : ⊥ = omega arith in absurd g
-      other false f = f
+-- ---- the reply of the call that is named
 
 pub reply-as : (c call : Call) (name line : List ℕ) → call ≡ callIn everyCall name → name ≡ getD (fields line) 0 [] → call ≡ c →
     replyOf c (drop 1 (fields line)) ≡ replyTo line

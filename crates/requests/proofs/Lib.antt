@@ -1,4 +1,2 @@
 pub mod Examples
 pub mod Laws
-pub mod LongLines
-pub mod Stream

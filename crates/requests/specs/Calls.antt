@@ -1,13 +1,15 @@
--- The calls, in the order of the protocol's table: the name, the parameters' types and what is answered.
+-- The calls, in the order of the protocol's table: the parameters' types and what is answered.
 use Prim.Native.Nat.{ℕ, _+_}
-use Prim.Native.String.{String}
-use mathlib.Core.Bool.{Bool, cond, not}
+use mathlib.Core.Bool.{cond}
 use mathlib.Core.List.{List, [], _∷_, _++_}
 use lib.Dec.{eqb}
 use lib.ListN.{getD, drop}
 use lib.IntN.{ℤ, pos, negℤ, natAbs}
 use Rattle.refusal.specs.Answer.{Answer, given, refused}
 use Rattle.lines.specs.Text.{fields, newline}
+use Rattle.calls.specs.Names.{everyCall, callIn, isKnown}
+use Rattle.calls.specs.declared.Call.{Call}
+use Rattle.calls.specs.declared.Call.the-variants as C
 use Rattle.iso_date.specs.Proposal.{date}
 use Rattle.iso_date.specs.Paper.{monthLength, dateToDay, dayToDate, balanceYearMonth, regulateDate, makeDate, dateLimits, balanceDate}
 use Rattle.iso_date.specs.declared.IsoDate.{IsoDate}
@@ -27,55 +29,12 @@ use Rattle.date_duration.specs.declared.Sign.{Sign}
 use Rattle.date_duration.specs.declared.Sign.the-variants as S
 use Rattle.date_duration.specs.declared.Part.{Part}
 use Rattle.date_duration.specs.declared.Part.the-variants as P
+use Rattle.date_math.specs.Paper.{dateSum, dateDifference}
 use Rattle.options.specs.declared.Overflow.{Overflow}
 use Rattle.options.specs.declared.Overflow.the-variants.{Constrain, Reject}
 use Rattle.options.specs.declared.Unit.{Unit as TimeUnit}
 use Rattle.options.specs.declared.Unit.the-variants as U
-use Rattle.requests.specs.Protocol.{Kind, signed, unsigned, oneOf, bytes, sameBytes, arguments, Reply, question, replyWith, replyText}
-use Rattle.requests.specs.declared.Call.{Call}
-use Rattle.requests.specs.declared.Call.the-variants as C
-
--- ---- names
-
-abbrev pub nameOf : Call → String
-nameOf C.MonthLength = "month_length"
-nameOf C.DateToDay = "date_to_day"
-nameOf C.DayToDate = "day_to_date"
-nameOf C.BalanceYearMonth = "balance_year_month"
-nameOf C.RegulateDate = "regulate_date"
-nameOf C.MakeDate = "make_date"
-nameOf C.DateLimits = "date_limits"
-nameOf C.BalanceDate = "balance_date"
-nameOf C.RegulateTime = "regulate_time"
-nameOf C.BalanceTime = "balance_time"
-nameOf C.TimeDifference = "time_difference"
-nameOf C.RoundNumber = "round_number"
-nameOf C.RoundNumberAsIfPositive = "round_number_as_if_positive"
-nameOf C.RoundTime = "round_time"
-nameOf C.DurationNew = "duration_new"
-nameOf C.DurationSign = "duration_sign"
-nameOf C.DurationAbs = "duration_abs"
-nameOf C.DurationNegated = "duration_negated"
-nameOf C.DurationAdjust = "duration_adjust"
-nameOf C.Unknown = ""
-
-abbrev pub dateCalls : List Call
-dateCalls =
-    C.MonthLength ∷ C.DateToDay ∷ C.DayToDate ∷ C.BalanceYearMonth ∷ C.RegulateDate ∷ C.MakeDate ∷ C.DateLimits ∷ C.BalanceDate ∷ []
-
-abbrev pub timeCalls : List Call
-timeCalls = C.RegulateTime ∷ C.BalanceTime ∷ C.TimeDifference ∷ C.RoundNumber ∷ C.RoundNumberAsIfPositive ∷ C.RoundTime ∷ []
-
-abbrev pub durationCalls : List Call
-durationCalls = C.DurationNew ∷ C.DurationSign ∷ C.DurationAbs ∷ C.DurationNegated ∷ C.DurationAdjust ∷ []
-
-abbrev pub everyCall : List Call
-everyCall = dateCalls ++ (timeCalls ++ durationCalls)
-
--- the first call of a list that has the name
-unfoldable pub callIn : List Call → List ℕ → Call
-callIn [] name = C.Unknown
-callIn (c ∷ cs) name = cond (sameBytes name (bytes (nameOf c))) c (callIn cs name)
+use Rattle.requests.specs.Protocol.{Kind, signed, unsigned, oneOf, arguments, Reply, question, replyWith, replyText}
 
 -- ---- parameters
 
@@ -125,6 +84,8 @@ kindsOf C.DurationSign = durationKinds
 kindsOf C.DurationAbs = durationKinds
 kindsOf C.DurationNegated = durationKinds
 kindsOf C.DurationAdjust = durationKinds ++ (signed 64 ∷ (choiceKinds ++ choiceKinds))
+kindsOf C.DateSum = dateKinds ++ (durationKinds ++ (overflowKind ∷ []))
+kindsOf C.DateDifference = dateKinds ++ (dateKinds ++ (unitKind ∷ []))
 kindsOf C.Unknown = []
 
 -- ---- answers: the numbers of a request as the call's parameters, and an answer's values in their order
@@ -211,12 +172,11 @@ meaningOf C.DurationSign zs = values (λ s. signNumber s ∷ []) (durationSign (
 meaningOf C.DurationAbs zs = values durationValues (durationAbs (durationAt zs 0))
 meaningOf C.DurationNegated zs = values durationValues (durationNegated (durationAt zs 0))
 meaningOf C.DurationAdjust zs = values durationValues (durationAdjust (durationAt zs 0) (at zs 4) (partAt zs 5) (partAt zs 7))
+meaningOf C.DateSum zs = values dateValues (dateSum (dateAt zs 0) (durationAt zs 3) (overflowOf (at zs 7)))
+meaningOf C.DateDifference zs = values durationValues (dateDifference (dateAt zs 0) (dateAt zs 3) (unitOf (at zs 6)))
 meaningOf C.Unknown zs = given []
 
 -- ---- the reply to a line
-
-abbrev pub isKnown : Call → Bool
-isKnown c = not (sameBytes (bytes (nameOf c)) [])
 
 unfoldable pub replyOf : Call → List (List ℕ) → Reply
 replyOf c numbers = cond (isKnown c) (replyWith (meaningOf c) (arguments (kindsOf c) numbers)) question

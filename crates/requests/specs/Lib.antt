@@ -1,4 +1,3 @@
 pub mod Calls
 pub mod Meaning
 pub mod Protocol
-pub mod Stream

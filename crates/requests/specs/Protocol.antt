@@ -1,26 +1,9 @@
 -- What a line is answered: its fields are a call's name and the call's numbers, each of its parameter's type.
 use Prim.Native.Nat.{ℕ, _-_, _^_}
-use Prim.Native.Char.{code}
-use Prim.Native.String.{String}
-use Prim.Native.String as Text
-use mathlib.Core.Bool.{Bool, true, false, _&&_}
 use mathlib.Core.List.{List, [], _∷_}
-use lib.Dec.{eqb}
 use lib.IntN.{ℤ, pos, negℤ}
 use Rattle.refusal.specs.Answer.{Answer, given, refused}
 use Rattle.lines.specs.Text.{Found, number, none, numberOf, within, answerText, questionText}
-
--- ---- names
-
-abbrev pub bytes : String → List ℕ
-bytes Text.[] = []
-bytes (Text._∷_ c cs) = code c ∷ bytes cs
-
-abbrev pub sameBytes : List ℕ → List ℕ → Bool
-sameBytes [] [] = true
-sameBytes [] (b ∷ bs) = false
-sameBytes (a ∷ rest) [] = false
-sameBytes (a ∷ rest) (b ∷ bs) = eqb a b && sameBytes rest bs
 
 -- ---- parameters: the numbers that a type takes
 

@@ -22,7 +22,7 @@ ghost use lib.ListN.{drop};
 ghost use Rattle.lines.specs.Text.{fields};
 ghost use Rattle.requests.specs.Calls.{replyOf};
 ghost use Rattle.requests.specs.Meaning.{Says};
-ghost use Rattle.requests.specs.declared.Call.the-variants.{MonthLength, DateToDay, DayToDate, BalanceYearMonth, RegulateDate, MakeDate, DateLimits, BalanceDate};
+ghost use Rattle.calls.specs.declared.Call.the-variants.{MonthLength, DateToDay, DayToDate, BalanceYearMonth, RegulateDate, MakeDate, DateLimits, BalanceDate};
 
 pub fn month_length(line: &[u8]) -> Written
     ensures { λ r. ⌜ Says r (replyOf MonthLength (drop 1 (fields (now (line .entry))))) ⌝ }

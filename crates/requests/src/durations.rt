@@ -18,7 +18,7 @@ ghost use lib.ListN.{drop};
 ghost use Rattle.lines.specs.Text.{fields};
 ghost use Rattle.requests.specs.Calls.{replyOf, partAt};
 ghost use Rattle.requests.specs.Meaning.{Says, choiceValues};
-ghost use Rattle.requests.specs.declared.Call.the-variants.{DurationNew, DurationSign, DurationAbs, DurationNegated, DurationAdjust};
+ghost use Rattle.calls.specs.declared.Call.the-variants.{DurationNew, DurationSign, DurationAbs, DurationNegated, DurationAdjust};
 
 // What a choice means for a part.
 fn part_of(choice: Choice) -> Part

@@ -3,10 +3,12 @@ mod dates;
 mod durations;
 pub mod inner;
 mod read;
+mod sums;
 mod times;
 mod written;
 
-use check::same;
+use calls::Call;
+use calls::call_named;
 pub use read::Byte;
 pub use read::Choice;
 pub use read::ChoiceFields;
@@ -21,110 +23,8 @@ pub use read::Short;
 pub use read::TimeFields;
 pub use read::UnitField;
 pub use written::Written;
-ghost use mathlib.Core.Path.{_≡_};
-ghost use mathlib.Core.List.{_++_};
-ghost use Rattle.requests.specs.Calls.{callIn, timeCalls, durationCalls, everyCall, replyTo};
+ghost use Rattle.requests.specs.Calls.{replyTo};
 ghost use Rattle.requests.specs.Meaning.{Says};
-
-// The calls that a request can name, in the order of the protocol's table.
-pub enum Call {
-    MonthLength,
-    DateToDay,
-    DayToDate,
-    BalanceYearMonth,
-    RegulateDate,
-    MakeDate,
-    DateLimits,
-    BalanceDate,
-    RegulateTime,
-    BalanceTime,
-    TimeDifference,
-    RoundNumber,
-    RoundNumberAsIfPositive,
-    RoundTime,
-    DurationNew,
-    DurationSign,
-    DurationAbs,
-    DurationNegated,
-    DurationAdjust,
-    Unknown,
-}
-
-// The call that a name is, or none: the calls on dates, then those on times.
-pub fn call_named(name: &[u8]) -> Call
-    ensures { λ r. ⌜ r ≡ callIn everyCall (now (name .entry)) ⌝ }
-{
-    if same(name, b"month_length") {
-        return Call::MonthLength;
-    }
-    if same(name, b"date_to_day") {
-        return Call::DateToDay;
-    }
-    if same(name, b"day_to_date") {
-        return Call::DayToDate;
-    }
-    if same(name, b"balance_year_month") {
-        return Call::BalanceYearMonth;
-    }
-    if same(name, b"regulate_date") {
-        return Call::RegulateDate;
-    }
-    if same(name, b"make_date") {
-        return Call::MakeDate;
-    }
-    if same(name, b"date_limits") {
-        return Call::DateLimits;
-    }
-    if same(name, b"balance_date") {
-        return Call::BalanceDate;
-    }
-    time_call(name)
-}
-
-fn time_call(name: &[u8]) -> Call
-    ensures { λ r. ⌜ r ≡ callIn (timeCalls ++ durationCalls) (now (name .entry)) ⌝ }
-{
-    if same(name, b"regulate_time") {
-        return Call::RegulateTime;
-    }
-    if same(name, b"balance_time") {
-        return Call::BalanceTime;
-    }
-    if same(name, b"time_difference") {
-        return Call::TimeDifference;
-    }
-    if same(name, b"round_number") {
-        return Call::RoundNumber;
-    }
-    if same(name, b"round_number_as_if_positive") {
-        return Call::RoundNumberAsIfPositive;
-    }
-    if same(name, b"round_time") {
-        return Call::RoundTime;
-    }
-    duration_call(name)
-}
-
-fn duration_call(name: &[u8]) -> Call
-    ensures { λ r. ⌜ r ≡ callIn durationCalls (now (name .entry)) ⌝ }
-{
-    if same(name, b"duration_new") {
-        return Call::DurationNew;
-    }
-    if same(name, b"duration_sign") {
-        return Call::DurationSign;
-    }
-    if same(name, b"duration_abs") {
-        return Call::DurationAbs;
-    }
-    if same(name, b"duration_negated") {
-        return Call::DurationNegated;
-    }
-    if same(name, b"duration_adjust") {
-        return Call::DurationAdjust;
-    }
-    Call::Unknown
-}
 
 // The reply to a line: an answer with its values, a refusal's number, or no request.
 pub fn reply_to(line: &[u8]) -> Written
@@ -151,6 +51,8 @@ pub fn reply_to(line: &[u8]) -> Written
         Call::DurationAbs => durations::duration_abs(line),
         Call::DurationNegated => durations::duration_negated(line),
         Call::DurationAdjust => durations::duration_adjust(line),
+        Call::DateSum => sums::date_sum(line),
+        Call::DateDifference => sums::date_difference(line),
         Call::Unknown => written::no_request(),
     }
 }

@@ -25,7 +25,7 @@ ghost use lib.ListN.{drop};
 ghost use Rattle.lines.specs.Text.{fields};
 ghost use Rattle.requests.specs.Calls.{replyOf};
 ghost use Rattle.requests.specs.Meaning.{Says};
-ghost use Rattle.requests.specs.declared.Call.the-variants.{RegulateTime, BalanceTime, TimeDifference, RoundNumber, RoundNumberAsIfPositive, RoundTime};
+ghost use Rattle.calls.specs.declared.Call.the-variants.{RegulateTime, BalanceTime, TimeDifference, RoundNumber, RoundNumberAsIfPositive, RoundTime};
 
 pub fn regulate_time(line: &[u8]) -> Written
     ensures { λ r. ⌜ Says r (replyOf RegulateTime (drop 1 (fields (now (line .entry))))) ⌝ }

@@ -5,8 +5,8 @@ use native.Mathlib.Omega.{arith}
 use mathlib.Core.Path.{_≡_, sym}
 use lib.ListN.{length, take}
 use lib.Seq.{length-take-le}
-use Rattle.requests.specs.Stream.{lineRoom, Keeps}
-use Rattle.requests.proofs.Stream.{keeps-nothing, keeps-more, keeps-all}
+use Rattle.stream.specs.Stream.{lineRoom, Keeps}
+use Rattle.stream.proofs.Stream.{keeps-nothing, keeps-more, keeps-all}
 use Rattle.console.proofs.answer_block.Statement.{statement}
 use Rattle.console.proofs.answer_block.Tie as tie
 

@@ -1,7 +1,7 @@
 -- The first field names the call; its reply is that of the call.
 use borrow.Author.Needs.{needs}
 use mathlib.Core.Path.{_∙_}
-use Rattle.requests.specs.declared.Call.the-variants.{MonthLength, DateToDay, DayToDate, BalanceYearMonth, RegulateDate, MakeDate, DateLimits, BalanceDate, RegulateTime, BalanceTime, TimeDifference, RoundNumber, RoundNumberAsIfPositive, RoundTime, DurationNew, DurationSign, DurationAbs, DurationNegated, DurationAdjust, Unknown}
+use Rattle.calls.specs.declared.Call.the-variants.{MonthLength, DateToDay, DayToDate, BalanceYearMonth, RegulateDate, MakeDate, DateLimits, BalanceDate, RegulateTime, BalanceTime, TimeDifference, RoundNumber, RoundNumberAsIfPositive, RoundTime, DurationNew, DurationSign, DurationAbs, DurationNegated, DurationAdjust, DateSum, DateDifference, Unknown}
 use Rattle.requests.proofs.Laws.{says-as, reply-as, unknown-reply}
 use Rattle.requests.proofs.reply_to.Statement.{statement}
 use Rattle.requests.proofs.reply_to.Tie as tie
@@ -129,6 +129,18 @@ duration-adjust-requires c κs = search needs
 enum-told-20 : tie.Need-enum-told-20
 enum-told-20 c = search needs
 
+date-sum-requires : tie.Need-date-sum-requires
+date-sum-requires c κs = search needs
+
+enum-told-21 : tie.Need-enum-told-21
+enum-told-21 c = search needs
+
+date-difference-requires : tie.Need-date-difference-requires
+date-difference-requires c κs = search needs
+
+enum-told-22 : tie.Need-enum-told-22
+enum-told-22 c = search needs
+
 no-request-requires : tie.Need-no-request-requires
 no-request-requires c κs = search needs
 
@@ -230,8 +242,18 @@ returns-19 c =
 returns-20 : tie.Need-returns-20
 returns-20 c =
     let t = c .before .before .before in
+    says-as (c .date-sum .ensures) (reply-as DateSum _ _ _ (t .call-named .ensures) (t .before .field .ensures) (c .before .enum-told20 .given .1))
+
+returns-21 : tie.Need-returns-21
+returns-21 c =
+    let t = c .before .before .before in
+    says-as (c .date-difference .ensures) (reply-as DateDifference _ _ _ (t .call-named .ensures) (t .before .field .ensures) (c .before .enum-told21 .given .1))
+
+returns-22 : tie.Need-returns-22
+returns-22 c =
+    let t = c .before .before .before in
     says-as (c .no-request .ensures)
-    (unknown-reply _ ∙ reply-as Unknown _ _ _ (t .call-named .ensures) (t .before .field .ensures) (c .before .enum-told20 .given .1))
+    (unknown-reply _ ∙ reply-as Unknown _ _ _ (t .call-named .ensures) (t .before .field .ensures) (c .before .enum-told22 .given .1))
 
 pub reply-to-spec : {M : Type 1} → statement M
 reply-to-spec =
@@ -278,6 +300,10 @@ reply-to-spec =
     enum-told-19
     duration-adjust-requires
     enum-told-20
+    date-sum-requires
+    enum-told-21
+    date-difference-requires
+    enum-told-22
     no-request-requires
     returns
     returns-2
@@ -298,4 +324,6 @@ reply-to-spec =
     returns-17
     returns-18
     returns-19
-    returns-20)
+    returns-20
+    returns-21
+    returns-22)

@@ -12,7 +12,7 @@ use Rattle.requests.specs.Calls.{values, dateValues, meaningOf}
 use Rattle.requests.specs.Meaning.{readAs, ofInt}
 use Rattle.requests.proofs.Laws.{says-as, no-reply, bad-reply, good-reply, collect-fails, collect-fails-later, collect-more, collect-end}
 use Rattle.iso_date.specs.declared.IsoDate.{IsoDate}
-use Rattle.requests.specs.declared.Call.the-variants.{BalanceDate}
+use Rattle.calls.specs.declared.Call.the-variants.{BalanceDate}
 use Rattle.requests.proofs.dates.balance_date.Statement.{statement}
 use Rattle.requests.proofs.dates.balance_date.Tie as tie
 

@@ -10,7 +10,7 @@ use Rattle.requests.specs.Calls.{yearMonthValues, meaningOf}
 use Rattle.requests.specs.Meaning.{readAs, ofInt}
 use Rattle.requests.proofs.Laws.{says-as, no-reply, bad-reply, good-reply, collect-fails, collect-fails-later, collect-more, collect-end}
 use Rattle.iso_date.specs.declared.YearMonth.{YearMonth}
-use Rattle.requests.specs.declared.Call.the-variants.{BalanceYearMonth}
+use Rattle.calls.specs.declared.Call.the-variants.{BalanceYearMonth}
 use Rattle.requests.proofs.dates.balance_year_month.Statement.{statement}
 use Rattle.requests.proofs.dates.balance_year_month.Tie as tie
 

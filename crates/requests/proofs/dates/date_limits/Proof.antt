@@ -9,7 +9,7 @@ use Rattle.requests.specs.Protocol.{said}
 use Rattle.requests.specs.Calls.{values, meaningOf}
 use Rattle.requests.specs.Meaning.{readAs, ofDateFields}
 use Rattle.requests.proofs.Laws.{says-as, no-reply, bad-reply, good-reply}
-use Rattle.requests.specs.declared.Call.the-variants.{DateLimits}
+use Rattle.calls.specs.declared.Call.the-variants.{DateLimits}
 use Rattle.requests.proofs.dates.date_limits.Statement.{statement}
 use Rattle.requests.proofs.dates.date_limits.Tie as tie
 

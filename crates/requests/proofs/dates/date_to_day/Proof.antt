@@ -10,7 +10,7 @@ use Rattle.requests.specs.Protocol.{said}
 use Rattle.requests.specs.Calls.{values, meaningOf}
 use Rattle.requests.specs.Meaning.{readAs, ofDateFields}
 use Rattle.requests.proofs.Laws.{says-as, no-reply, bad-reply, good-reply}
-use Rattle.requests.specs.declared.Call.the-variants.{DateToDay}
+use Rattle.calls.specs.declared.Call.the-variants.{DateToDay}
 use Rattle.requests.proofs.dates.date_to_day.Statement.{statement}
 use Rattle.requests.proofs.dates.date_to_day.Tie as tie
 

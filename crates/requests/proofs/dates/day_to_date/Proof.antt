@@ -12,7 +12,7 @@ use Rattle.requests.specs.Calls.{values, dateValues, meaningOf}
 use Rattle.requests.specs.Meaning.{readAs}
 use Rattle.requests.proofs.Laws.{says-as, no-reply, bad-reply, good-reply, collect-fails, collect-more, collect-end}
 use Rattle.iso_date.specs.declared.IsoDate.{IsoDate}
-use Rattle.requests.specs.declared.Call.the-variants.{DayToDate}
+use Rattle.calls.specs.declared.Call.the-variants.{DayToDate}
 use Rattle.requests.proofs.dates.day_to_date.Statement.{statement}
 use Rattle.requests.proofs.dates.day_to_date.Tie as tie
 

@@ -12,7 +12,7 @@ use Rattle.requests.specs.Meaning.{readAs, ofOverflowField, ofDateFields
 use Rattle.requests.proofs.Laws.{says-as, no-reply, bad-reply, good-reply, collect-fails, collect-more, collect-end, group-fails, group-then-fails, group-then, overflow-back}
 use Rattle.iso_date.specs.Paper.{makeDate}
 use Rattle.iso_date.specs.declared.IsoDate.{IsoDate}
-use Rattle.requests.specs.declared.Call.the-variants.{MakeDate}
+use Rattle.calls.specs.declared.Call.the-variants.{MakeDate}
 use Rattle.requests.proofs.dates.make_date.Statement.{statement}
 use Rattle.requests.proofs.dates.make_date.Tie as tie
 

@@ -13,7 +13,7 @@ use Rattle.requests.specs.Protocol.{said}
 use Rattle.requests.specs.Calls.{values, meaningOf}
 use Rattle.requests.specs.Meaning.{readAs, ofInt, ofByte}
 use Rattle.requests.proofs.Laws.{says-as, no-reply, bad-reply, good-reply, collect-fails, collect-fails-later, collect-more, collect-end}
-use Rattle.requests.specs.declared.Call.the-variants.{MonthLength}
+use Rattle.calls.specs.declared.Call.the-variants.{MonthLength}
 use Rattle.requests.proofs.dates.month_length.Statement.{statement}
 use Rattle.requests.proofs.dates.month_length.Tie as tie
 

@@ -9,7 +9,7 @@ use Rattle.requests.specs.Calls.{durationValues, meaningOf, values}
 use Rattle.requests.specs.Meaning.{ofDurationFields}
 use Rattle.requests.proofs.Laws.{bad-reply, good-reply, no-reply, says-as}
 use Rattle.date_duration.specs.declared.DateDuration.{DateDuration}
-use Rattle.requests.specs.declared.Call.the-variants.{DurationAbs}
+use Rattle.calls.specs.declared.Call.the-variants.{DurationAbs}
 use Rattle.requests.proofs.durations.duration_abs.Statement.{statement}
 use Rattle.requests.proofs.durations.duration_abs.Tie as tie
 

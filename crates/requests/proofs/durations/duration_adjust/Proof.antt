@@ -15,7 +15,7 @@ use Rattle.date_duration.specs.declared.DateDuration.{DateDuration}
 use mathlib.Core.Path.{ap₂}
 use Rattle.date_duration.specs.Paper.{durationAdjust}
 use Rattle.date_duration.specs.declared.Part.{Part}
-use Rattle.requests.specs.declared.Call.the-variants.{DurationAdjust}
+use Rattle.calls.specs.declared.Call.the-variants.{DurationAdjust}
 use Rattle.requests.proofs.durations.duration_adjust.Statement.{statement}
 use Rattle.requests.proofs.durations.duration_adjust.Tie as tie
 

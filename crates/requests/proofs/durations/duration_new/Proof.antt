@@ -12,7 +12,7 @@ use Rattle.requests.specs.Meaning.{ofDurationFields}
 use Rattle.requests.proofs.Laws.{bad-reply, good-reply, no-reply, says-as}
 use Rattle.date_duration.specs.declared.DateDuration.{DateDuration}
 use mir.Facts.{toZ-ofZ}
-use Rattle.requests.specs.declared.Call.the-variants.{DurationNew}
+use Rattle.calls.specs.declared.Call.the-variants.{DurationNew}
 use Rattle.requests.proofs.durations.duration_new.Statement.{statement}
 use Rattle.requests.proofs.durations.duration_new.Tie as tie
 

@@ -10,7 +10,7 @@ use Rattle.requests.specs.Calls.{meaningOf, signNumber, values}
 use Rattle.requests.specs.Meaning.{ofDurationFields}
 use Rattle.requests.proofs.Laws.{bad-reply, good-reply, no-reply, says-as}
 use Rattle.date_duration.specs.declared.Sign.{Sign}
-use Rattle.requests.specs.declared.Call.the-variants.{DurationSign}
+use Rattle.calls.specs.declared.Call.the-variants.{DurationSign}
 use Rattle.requests.proofs.durations.duration_sign.Statement.{statement}
 use Rattle.requests.proofs.durations.duration_sign.Tie as tie
 

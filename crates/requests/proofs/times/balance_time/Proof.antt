@@ -12,7 +12,7 @@ use Rattle.requests.specs.Meaning.{ofPartsFields}
 use Rattle.requests.proofs.Laws.{bad-reply, good-reply, no-reply, says-as}
 use Rattle.iso_time.specs.declared.BalancedTime.{BalancedTime}
 use mir.Facts.{toZ-ofZ}
-use Rattle.requests.specs.declared.Call.the-variants.{BalanceTime}
+use Rattle.calls.specs.declared.Call.the-variants.{BalanceTime}
 use Rattle.requests.proofs.times.balance_time.Statement.{statement}
 use Rattle.requests.proofs.times.balance_time.Tie as tie
 

@@ -10,7 +10,7 @@ use Rattle.requests.specs.Meaning.{ofOverflowField, ofTimeFields}
 use Rattle.requests.proofs.Laws.{bad-reply, collect-end, collect-fails, collect-more, good-reply, group-fails, group-then, group-then-fails, no-reply, overflow-back, says-as}
 use Rattle.iso_time.specs.Paper.{regulateTime}
 use Rattle.iso_time.specs.declared.IsoTime.{IsoTime}
-use Rattle.requests.specs.declared.Call.the-variants.{RegulateTime}
+use Rattle.calls.specs.declared.Call.the-variants.{RegulateTime}
 use Rattle.requests.proofs.times.regulate_time.Statement.{statement}
 use Rattle.requests.proofs.times.regulate_time.Tie as tie
 

@@ -14,7 +14,7 @@ use Rattle.requests.specs.Calls.{meaningOf, values}
 use Rattle.requests.specs.Meaning.{readAs, ofModeField}
 use Rattle.requests.proofs.Laws.{bad-reply, collect-end, collect-fails, collect-fails-later, collect-more, good-reply, mode-back, no-reply, says-as}
 use Rattle.rounding.specs.Paper.{roundNumber}
-use Rattle.requests.specs.declared.Call.the-variants.{RoundNumber}
+use Rattle.calls.specs.declared.Call.the-variants.{RoundNumber}
 use Rattle.requests.proofs.times.round_number.Statement.{statement}
 use Rattle.requests.proofs.times.round_number.Tie as tie
 

@@ -14,7 +14,7 @@ use Rattle.requests.specs.Calls.{meaningOf, values}
 use Rattle.requests.specs.Meaning.{readAs, ofModeField}
 use Rattle.requests.proofs.Laws.{bad-reply, collect-end, collect-fails, collect-fails-later, collect-more, good-reply, mode-back, no-reply, says-as}
 use Rattle.rounding.specs.Paper.{roundNumberAsIfPositive}
-use Rattle.requests.specs.declared.Call.the-variants.{RoundNumberAsIfPositive}
+use Rattle.calls.specs.declared.Call.the-variants.{RoundNumberAsIfPositive}
 use Rattle.requests.proofs.times.round_number_as_if_positive.Statement.{statement}
 use Rattle.requests.proofs.times.round_number_as_if_positive.Tie as tie
 

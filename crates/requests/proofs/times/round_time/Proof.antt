@@ -14,7 +14,7 @@ use Rattle.iso_time.specs.Paper.{roundedTime}
 use Rattle.iso_time.specs.declared.BalancedTime.{BalancedTime}
 use mathlib.Core.Path.{ap₂}
 use Rattle.rounding.specs.declared.RoundingMode.{RoundingMode}
-use Rattle.requests.specs.declared.Call.the-variants.{RoundTime}
+use Rattle.calls.specs.declared.Call.the-variants.{RoundTime}
 use Rattle.requests.proofs.times.round_time.Statement.{statement}
 use Rattle.requests.proofs.times.round_time.Tie as tie
 

@@ -9,7 +9,7 @@ use Rattle.requests.specs.Calls.{meaningOf, spanValues, timeKinds, value
 use Rattle.requests.specs.Meaning.{ofTimeFields}
 use Rattle.requests.proofs.Laws.{bad-reply, good-reply, group-fails, group-then, group-then-fails, no-reply, says-as}
 use Rattle.iso_time.specs.declared.TimeDuration.{TimeDuration}
-use Rattle.requests.specs.declared.Call.the-variants.{TimeDifference}
+use Rattle.calls.specs.declared.Call.the-variants.{TimeDifference}
 use Rattle.requests.proofs.times.time_difference.Statement.{statement}
 use Rattle.requests.proofs.times.time_difference.Tie as tie
 

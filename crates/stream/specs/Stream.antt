@@ -8,8 +8,8 @@ use lib.ListN.{length, take}
 use lib.Seq.{slice}
 use Rattle.lines.specs.Text.{newline}
 use Rattle.lines.specs.Wrote.{Wrote}
 use Rattle.requests.specs.Calls.{responseTo}
-use Rattle.requests.specs.declared.inner.Progress.{Progress}
+use Rattle.stream.specs.declared.inner.Progress.{Progress}
 
 -- what is written while bytes are taken, after `pending` was read of a line that has not ended
 unfoldable pub answered : List ℕ → List ℕ → List ℕ

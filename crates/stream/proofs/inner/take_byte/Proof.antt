@@ -1,9 +1,9 @@
 -- A newline ends what was pending, which is answered; another byte joins it, in the line buffer while that has room.
 use borrow.Author.Needs.{needs}
 use mathlib.Core.Path.{refl}
-use Rattle.requests.proofs.Stream.{took-newline, took-other, took-long}
-use Rattle.requests.proofs.inner.take_byte.Statement.{statement}
-use Rattle.requests.proofs.inner.take_byte.Tie as tie
+use Rattle.stream.proofs.Stream.{took-newline, took-other, took-long}
+use Rattle.stream.proofs.inner.take_byte.Statement.{statement}
+use Rattle.stream.proofs.inner.take_byte.Tie as tie
 
 shared-slice-read-b : tie.Need-shared-slice-read-b
 shared-slice-read-b c = search needs

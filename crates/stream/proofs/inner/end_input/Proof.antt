@@ -1,10 +1,10 @@
 -- A pending line is not empty, and is answered as any other; where nothing is pending, nothing is written.
 use borrow.Author.Needs.{needs}
 use Rattle.lines.proofs.Writing.{nothing}
 use Rattle.requests.proofs.Laws.{wrote-as}
-use Rattle.requests.proofs.Stream.{last-long, last-whole, last-none}
-use Rattle.requests.proofs.inner.end_input.Statement.{statement}
-use Rattle.requests.proofs.inner.end_input.Tie as tie
+use Rattle.stream.proofs.Stream.{last-long, last-whole, last-none}
+use Rattle.stream.proofs.inner.end_input.Statement.{statement}
+use Rattle.stream.proofs.inner.end_input.Tie as tie
 
 end-line-requires : tie.Need-end-line-requires
 end-line-requires c κs = search needs

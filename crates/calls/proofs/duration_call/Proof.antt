@@ -2,25 +2,25 @@
 use borrow.Author.Needs.{needs}
 use mathlib.Core.Path.{_≡_, sym, _∙_}
 use lib.ListN.{drop}
-use Rattle.requests.specs.Calls.{callIn, durationCalls}
-use Rattle.requests.specs.declared.Call.the-variants.{DurationNew, DurationSign, DurationAbs, DurationNegated, DurationAdjust}
-use Rattle.requests.proofs.Laws.{this-call, next-call}
-use Rattle.requests.proofs.duration_call.Statement.{statement}
-use Rattle.requests.proofs.duration_call.Tie as tie
+use Rattle.calls.specs.Names.{callIn, fromDurations}
+use Rattle.calls.specs.declared.Call.the-variants.{DurationNew, DurationSign, DurationAbs, DurationNegated, DurationAdjust}
+use Rattle.calls.proofs.Names.{this-call, next-call}
+use Rattle.calls.proofs.duration_call.Statement.{statement}
+use Rattle.calls.proofs.duration_call.Tie as tie
 
-past1 : (c : tie.Else1) → callIn durationCalls (c .before .before .before .before .args .name .now) ≡ callIn (drop 1 durationCalls) (c .before .before .before .before .args .name .now)
+past1 : (c : tie.Else1) → callIn fromDurations (c .before .before .before .before .args .name .now) ≡ callIn (drop 1 fromDurations) (c .before .before .before .before .args .name .now)
 past1 c = next-call DurationNew _ _ _ (c .before .same .ensures) (c .if1 .left)
 
-past2 : (c : tie.Else2) → callIn durationCalls (c .before .before .before .before .before .before .before .args .name .now) ≡ callIn (drop 2 durationCalls) (c .before .before .before .before .before .before .before .args .name .now)
+past2 : (c : tie.Else2) → callIn fromDurations (c .before .before .before .before .before .before .before .args .name .now) ≡ callIn (drop 2 fromDurations) (c .before .before .before .before .before .before .before .args .name .now)
 past2 c = past1 (c .before .before .before) ∙ next-call DurationSign _ _ _ (c .before .same2 .ensures) (c .if2 .left)
 
-past3 : (c : tie.Else3) → callIn durationCalls (c .before .before .before .before .before .before .before .before .before .before .args .name .now) ≡ callIn (drop 3 durationCalls) (c .before .before .before .before .before .before .before .before .before .before .args .name .now)
+past3 : (c : tie.Else3) → callIn fromDurations (c .before .before .before .before .before .before .before .before .before .before .args .name .now) ≡ callIn (drop 3 fromDurations) (c .before .before .before .before .before .before .before .before .before .before .args .name .now)
 past3 c = past2 (c .before .before .before) ∙ next-call DurationAbs _ _ _ (c .before .same3 .ensures) (c .if3 .left)
 
-past4 : (c : tie.Else4) → callIn durationCalls (c .before .before .before .before .before .before .before .before .before .before .before .before .before .args .name .now) ≡ callIn (drop 4 durationCalls) (c .before .before .before .before .before .before .before .before .before .before .before .before .before .args .name .now)
+past4 : (c : tie.Else4) → callIn fromDurations (c .before .before .before .before .before .before .before .before .before .before .before .before .before .args .name .now) ≡ callIn (drop 4 fromDurations) (c .before .before .before .before .before .before .before .before .before .before .before .before .before .args .name .now)
 past4 c = past3 (c .before .before .before) ∙ next-call DurationNegated _ _ _ (c .before .same4 .ensures) (c .if4 .left)
 
-past5 : (c : tie.Else5) → callIn durationCalls (c .before .before .before .before .before .before .before .before .before .before .before .before .before .before .before .before .args .name .now) ≡ callIn (drop 5 durationCalls) (c .before .before .before .before .before .before .before .before .before .before .before .before .before .before .before .before .args .name .now)
+past5 : (c : tie.Else5) → callIn fromDurations (c .before .before .before .before .before .before .before .before .before .before .before .before .before .before .before .before .args .name .now) ≡ callIn (drop 5 fromDurations) (c .before .before .before .before .before .before .before .before .before .before .before .before .before .before .before .before .args .name .now)
 past5 c = past4 (c .before .before .before) ∙ next-call DurationAdjust _ _ _ (c .before .same5 .ensures) (c .if5 .left)
 
 slice-aggregate-same : tie.Need-slice-aggregate-same
@@ -68,9 +68,11 @@ same-requires-5 c κs = search needs
 returns-5 : tie.Need-returns-5
 returns-5 c = sym (past4 (c .before .before .before) ∙ this-call DurationAdjust _ _ _ (c .before .same5 .ensures) (c .if5 .taken))
 
+sum-call-requires : tie.Need-sum-call-requires
+sum-call-requires c κs = search needs
+
 returns-6 : tie.Need-returns-6
-unfolding callIn
-returns-6 c = sym (past5 c)
+returns-6 c = c .sum-call .ensures ∙ sym (past5 (c .before))
 
 pub duration-call-spec : {M : Type 1} → statement M
 duration-call-spec =
@@ -91,4 +93,5 @@ duration-call-spec =
     slice-aggregate-same-5
     same-requires-5
     returns-5
+    sum-call-requires
     returns-6)

@@ -4,10 +4,10 @@ use native.Mathlib.Omega.{arith}
 use Prim.Native.Nat.{_-_}
 use mathlib.Core.Path.{_≡_, refl}
 use lib.ListN.{length}
-use Rattle.requests.specs.Stream.{Took}
-use Rattle.requests.proofs.Stream.{took-nothing, took-more, moved}
-use Rattle.requests.proofs.inner.take_lines.Statement.{statement}
-use Rattle.requests.proofs.inner.take_lines.Tie as tie
+use Rattle.stream.specs.Stream.{Took}
+use Rattle.stream.proofs.Stream.{took-nothing, took-more, moved}
+use Rattle.stream.proofs.inner.take_lines.Statement.{statement}
+use Rattle.stream.proofs.inner.take_lines.Tie as tie
 
 abbrev Inv-loop : tie.InvT-loop
 Inv-loop block line₀ out₀ state₀ line out state =

@@ -2,11 +2,11 @@
 use borrow.Author.Needs.{needs}
 use mathlib.Core.Path.{_≡_, sym, _∙_}
 use lib.ListN.{drop}
-use Rattle.requests.specs.Calls.{callIn, everyCall}
-use Rattle.requests.specs.declared.Call.the-variants.{MonthLength, DateToDay, DayToDate, BalanceYearMonth, RegulateDate, MakeDate, DateLimits, BalanceDate}
-use Rattle.requests.proofs.Laws.{this-call, next-call}
-use Rattle.requests.proofs.call_named.Statement.{statement}
-use Rattle.requests.proofs.call_named.Tie as tie
+use Rattle.calls.specs.Names.{callIn, everyCall}
+use Rattle.calls.specs.declared.Call.the-variants.{MonthLength, DateToDay, DayToDate, BalanceYearMonth, RegulateDate, MakeDate, DateLimits, BalanceDate}
+use Rattle.calls.proofs.Names.{this-call, next-call}
+use Rattle.calls.proofs.call_named.Statement.{statement}
+use Rattle.calls.proofs.call_named.Tie as tie
 
 past1 : (c : tie.Else1) → callIn everyCall (c .before .before .before .before .args .name .now) ≡ callIn (drop 1 everyCall) (c .before .before .before .before .args .name .now)
 past1 c = next-call MonthLength _ _ _ (c .before .same .ensures) (c .if1 .left)

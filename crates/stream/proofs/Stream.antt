@@ -15,9 +15,9 @@ use Rattle.whole.proofs.Laws.{split}
 use Rattle.lines.specs.Text.{newline}
 use Rattle.lines.specs.Wrote.{Wrote}
 use Rattle.lines.proofs.Writing.{after, nothing}
 use Rattle.requests.specs.Calls.{responseTo}
-use Rattle.requests.specs.Stream.{answered, pendingAfter, lastAnswer, outputOf, lineRoom, responseRoom, Holds, Keeps, Inside, Took}
-use Rattle.requests.specs.declared.inner.Progress.{Progress}
+use Rattle.stream.specs.Stream.{answered, pendingAfter, lastAnswer, outputOf, lineRoom, responseRoom, Holds, Keeps, Inside, Took}
+use Rattle.stream.specs.declared.inner.Progress.{Progress}
 
 -- ---- bytes in two parts
 

@@ -6,11 +6,11 @@ use mathlib.Core.Path.{sym, ap}
 use lib.ListN.{length}
 use lib.Seq.{length-take-le}
 use Rattle.lines.proofs.Writing.{ends-inside}
 use Rattle.requests.specs.Calls.{responseTo}
 use Rattle.requests.proofs.Laws.{wrote-as}
-use Rattle.requests.proofs.LongLines.{long-lines}
-use Rattle.requests.proofs.inner.end_line.Statement.{statement}
-use Rattle.requests.proofs.inner.end_line.Tie as tie
+use Rattle.stream.proofs.LongLines.{long-lines}
+use Rattle.stream.proofs.inner.end_line.Statement.{statement}
+use Rattle.stream.proofs.inner.end_line.Tie as tie
 
 put-question-requires : tie.Need-put-question-requires
 put-question-requires c κs = search needs

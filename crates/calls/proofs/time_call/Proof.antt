@@ -1,30 +1,29 @@
 -- Each name in turn: the first that is the same is the call.
 use borrow.Author.Needs.{needs}
 use mathlib.Core.Path.{_≡_, sym, _∙_}
-use mathlib.Core.List.{_++_}
 use lib.ListN.{drop}
-use Rattle.requests.specs.Calls.{callIn, timeCalls, durationCalls}
-use Rattle.requests.specs.declared.Call.the-variants.{RegulateTime, BalanceTime, TimeDifference, RoundNumber, RoundNumberAsIfPositive, RoundTime}
-use Rattle.requests.proofs.Laws.{this-call, next-call}
-use Rattle.requests.proofs.time_call.Statement.{statement}
-use Rattle.requests.proofs.time_call.Tie as tie
+use Rattle.calls.specs.Names.{callIn, fromTimes}
+use Rattle.calls.specs.declared.Call.the-variants.{RegulateTime, BalanceTime, TimeDifference, RoundNumber, RoundNumberAsIfPositive, RoundTime}
+use Rattle.calls.proofs.Names.{this-call, next-call}
+use Rattle.calls.proofs.time_call.Statement.{statement}
+use Rattle.calls.proofs.time_call.Tie as tie
 
-past1 : (c : tie.Else1) → callIn (timeCalls ++ durationCalls) (c .before .before .before .before .args .name .now) ≡ callIn (drop 1 (timeCalls ++ durationCalls)) (c .before .before .before .before .args .name .now)
+past1 : (c : tie.Else1) → callIn fromTimes (c .before .before .before .before .args .name .now) ≡ callIn (drop 1 fromTimes) (c .before .before .before .before .args .name .now)
 past1 c = next-call RegulateTime _ _ _ (c .before .same .ensures) (c .if1 .left)
 
-past2 : (c : tie.Else2) → callIn (timeCalls ++ durationCalls) (c .before .before .before .before .before .before .before .args .name .now) ≡ callIn (drop 2 (timeCalls ++ durationCalls)) (c .before .before .before .before .before .before .before .args .name .now)
+past2 : (c : tie.Else2) → callIn fromTimes (c .before .before .before .before .before .before .before .args .name .now) ≡ callIn (drop 2 fromTimes) (c .before .before .before .before .before .before .before .args .name .now)
 past2 c = past1 (c .before .before .before) ∙ next-call BalanceTime _ _ _ (c .before .same2 .ensures) (c .if2 .left)
 
-past3 : (c : tie.Else3) → callIn (timeCalls ++ durationCalls) (c .before .before .before .before .before .before .before .before .before .before .args .name .now) ≡ callIn (drop 3 (timeCalls ++ durationCalls)) (c .before .before .before .before .before .before .before .before .before .before .args .name .now)
+past3 : (c : tie.Else3) → callIn fromTimes (c .before .before .before .before .before .before .before .before .before .before .args .name .now) ≡ callIn (drop 3 fromTimes) (c .before .before .before .before .before .before .before .before .before .before .args .name .now)
 past3 c = past2 (c .before .before .before) ∙ next-call TimeDifference _ _ _ (c .before .same3 .ensures) (c .if3 .left)
 
-past4 : (c : tie.Else4) → callIn (timeCalls ++ durationCalls) (c .before .before .before .before .before .before .before .before .before .before .before .before .before .args .name .now) ≡ callIn (drop 4 (timeCalls ++ durationCalls)) (c .before .before .before .before .before .before .before .before .before .before .before .before .before .args .name .now)
+past4 : (c : tie.Else4) → callIn fromTimes (c .before .before .before .before .before .before .before .before .before .before .before .before .before .args .name .now) ≡ callIn (drop 4 fromTimes) (c .before .before .before .before .before .before .before .before .before .before .before .before .before .args .name .now)
 past4 c = past3 (c .before .before .before) ∙ next-call RoundNumber _ _ _ (c .before .same4 .ensures) (c .if4 .left)
 
-past5 : (c : tie.Else5) → callIn (timeCalls ++ durationCalls) (c .before .before .before .before .before .before .before .before .before .before .before .before .before .before .before .before .args .name .now) ≡ callIn (drop 5 (timeCalls ++ durationCalls)) (c .before .before .before .before .before .before .before .before .before .before .before .before .before .before .before .before .args .name .now)
+past5 : (c : tie.Else5) → callIn fromTimes (c .before .before .before .before .before .before .before .before .before .before .before .before .before .before .before .before .args .name .now) ≡ callIn (drop 5 fromTimes) (c .before .before .before .before .before .before .before .before .before .before .before .before .before .before .before .before .args .name .now)
 past5 c = past4 (c .before .before .before) ∙ next-call RoundNumberAsIfPositive _ _ _ (c .before .same5 .ensures) (c .if5 .left)
 
-past6 : (c : tie.Else6) → callIn (timeCalls ++ durationCalls) (c .before .before .before .before .before .before .before .before .before .before .before .before .before .before .before .before .before .before .before .args .name .now) ≡ callIn (drop 6 (timeCalls ++ durationCalls)) (c .before .before .before .before .before .before .before .before .before .before .before .before .before .before .before .before .before .before .before .args .name .now)
+past6 : (c : tie.Else6) → callIn fromTimes (c .before .before .before .before .before .before .before .before .before .before .before .before .before .before .before .before .before .before .before .args .name .now) ≡ callIn (drop 6 fromTimes) (c .before .before .before .before .before .before .before .before .before .before .before .before .before .before .before .before .before .before .before .args .name .now)
 past6 c = past5 (c .before .before .before) ∙ next-call RoundTime _ _ _ (c .before .same6 .ensures) (c .if6 .left)
 
 slice-aggregate-same : tie.Need-slice-aggregate-same
