@@ -31,6 +31,11 @@ nameOf C.DurationNegated = "duration_negated"
 nameOf C.DurationAdjust = "duration_adjust"
 nameOf C.DateSum = "date_sum"
 nameOf C.DateDifference = "date_difference"
+nameOf C.DateTimeLimits = "datetime_limits"
+nameOf C.BalanceDateTime = "balance_datetime"
+nameOf C.RoundDateTime = "round_datetime"
+nameOf C.DateTimeDifference = "datetime_difference"
+nameOf C.DateTimeFromInstant = "datetime_from_instant"
 nameOf C.Unknown = ""
 
 abbrev pub dateCalls : List Call
@@ -46,9 +51,15 @@ durationCalls = C.DurationNew ∷ C.DurationSign ∷ C.DurationAbs ∷ C.Duratio
 abbrev pub sumCalls : List Call
 sumCalls = C.DateSum ∷ C.DateDifference ∷ []
 
+abbrev pub dateTimeCalls : List Call
+dateTimeCalls = C.DateTimeLimits ∷ C.BalanceDateTime ∷ C.RoundDateTime ∷ C.DateTimeDifference ∷ C.DateTimeFromInstant ∷ []
+
 -- the calls from a group on
+abbrev pub fromSums : List Call
+fromSums = sumCalls ++ dateTimeCalls
+
 abbrev pub fromDurations : List Call
-fromDurations = durationCalls ++ sumCalls
+fromDurations = durationCalls ++ fromSums
 
 abbrev pub fromTimes : List Call
 fromTimes = timeCalls ++ fromDurations

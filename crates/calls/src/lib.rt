@@ -1,7 +1,7 @@
 // The calls that a request can name, and their names.
 use check::same;
 ghost use mathlib.Core.Path.{_≡_};
-ghost use Rattle.calls.specs.Names.{callIn, sumCalls, fromDurations, fromTimes, everyCall};
+ghost use Rattle.calls.specs.Names.{callIn, dateTimeCalls, fromSums, fromDurations, fromTimes, everyCall};
 
 // The calls that a request can name, in the order of the protocol's table.
 pub enum Call {
@@ -26,10 +26,16 @@ pub enum Call {
     DurationAdjust,
     DateSum,
     DateDifference,
+    DateTimeLimits,
+    BalanceDateTime,
+    RoundDateTime,
+    DateTimeDifference,
+    DateTimeFromInstant,
     Unknown,
 }
 
-// The call that a name is, or none: the calls on dates, then those on times, on durations, and sum and difference.
+// The call that a name is, or none: the calls on dates, then those on times, on durations, sum and difference,
+// and those on dates with a time.
 pub fn call_named(name: &[u8]) -> Call
     ensures { λ r. ⌜ r ≡ callIn everyCall (now (name .entry)) ⌝ }
 {
@@ -106,13 +112,34 @@ fn duration_call(name: &[u8]) -> Call
 }
 
 fn sum_call(name: &[u8]) -> Call
-    ensures { λ r. ⌜ r ≡ callIn sumCalls (now (name .entry)) ⌝ }
+    ensures { λ r. ⌜ r ≡ callIn fromSums (now (name .entry)) ⌝ }
 {
     if same(name, b"date_sum") {
         return Call::DateSum;
     }
     if same(name, b"date_difference") {
         return Call::DateDifference;
+    }
+    date_time_call(name)
+}
+
+fn date_time_call(name: &[u8]) -> Call
+    ensures { λ r. ⌜ r ≡ callIn dateTimeCalls (now (name .entry)) ⌝ }
+{
+    if same(name, b"datetime_limits") {
+        return Call::DateTimeLimits;
+    }
+    if same(name, b"balance_datetime") {
+        return Call::BalanceDateTime;
+    }
+    if same(name, b"round_datetime") {
+        return Call::RoundDateTime;
+    }
+    if same(name, b"datetime_difference") {
+        return Call::DateTimeDifference;
+    }
+    if same(name, b"datetime_from_instant") {
+        return Call::DateTimeFromInstant;
     }
     Call::Unknown
 }

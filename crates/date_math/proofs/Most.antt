@@ -1,20 +1,20 @@
 -- The most that can be moved without passing, in numbers: where the way is `gap` long and one count moves by `step`, it is as often as
 -- the step goes into the gap, in the direction of the way, and no other count is the most. Assumes nothing.
-use Prim.Native.Nat.{ℕ, zero, suc, _+_, _-_, _*_, _/_, _%_, _≤_, _<_}
+use Prim.Native.Nat.{ℕ, zero, suc, _+_, _-_, _*_, _/_, _≤_, _<_}
 use native.Mathlib.Nat.{div-add-mod, mod-lt, mul-le-mul-left}
 use native.Mathlib.Omega.{arith}
 use mathlib.Core.Path.{_≡_, refl, sym, _∙_, ap}
 use mathlib.Core.Bool.{Bool, true, false, not, _&&_, _||_}
-use lib.IntN.{ℤ, pos, negsuc, negℤ, natAbs, _+ℤ_, _-ℤ_, _*ℤ_}
+use lib.IntN.{ℤ, pos, negsuc, negℤ, natAbs, _+ℤ_, _*ℤ_}
 use lib.Signed.{ltZ, _≤ℤ_, _<ℤ_}
 use mathlib.Core.Logic.{⊎-elim}
-use Rattle.whole.proofs.Laws.{ints, split, quotient, read-add, read-neg, read-times}
+use Rattle.whole.proofs.Laws.{ints, split, quotient, read-add, read-neg}
 use Rattle.iso_date.specs.declared.IsoDate.{IsoDate}
-use Rattle.date_math.specs.Proposal.{isLater, directed}
+use Rattle.date_math.specs.Proposal.{directed}
 use Rattle.date_math.specs.Rules.{onTheWay, Most}
 use Rattle.date_math.specs.Inner.{placeOf}
 use Rattle.date_math.proofs.Places.{Proper, later-place, directed-times}
-use Rattle.date_math.proofs.Rest.{Ahead, size-of}
+use Rattle.date_math.proofs.Rest.{Ahead}
 
 -- t lies between a and b, in numbers
 abbrev pub between : ℤ → ℤ → ℤ → Bool

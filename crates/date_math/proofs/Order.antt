@@ -1,7 +1,7 @@
 -- The order of valid dates, by year, then month, then day, is that of their day numbers. Assumes nothing.
 use Prim.Native.Nat.{ℕ, _+_, _-_, _*_, _≤_, _<_}
 use native.Mathlib.Omega.{arith}
-use mathlib.Core.Path.{_≡_, refl, sym, _∙_, ap, subst}
+use mathlib.Core.Path.{_≡_, refl, sym, subst}
 use mathlib.Core.Bool.{Bool, true, false, cond, _&&_, _||_}
 use borrow.Author.Tests.{ltb-true, ltb-false, leb-true, leb-false}
 use lib.Dec.{T, ltb, leb, leb→le}
@@ -9,7 +9,7 @@ use lib.ListN.{getD}
 use lib.IntN.{ℤ, pos, _+ℤ_}
 use lib.Signed.{ltZ, leZ, _≤ℤ_, _<ℤ_}
 use Rattle.whole.specs.Whole.{_⊖_}
-use Rattle.whole.proofs.Laws.{ints, whole, up, dn, read-add, read-diff}
+use Rattle.whole.proofs.Laws.{ints, whole, up, dn, read-add}
 use Rattle.whole.proofs.Every.{every, every-at, every-le}
 use Rattle.iso_date.specs.Proposal.{date, dayFromYear, leapYear, monthLengths, isoDaysInMonth, daysBeforeMonth, epochDays, isValidISODate}
 use Rattle.iso_date.specs.Inner.{yearStart}

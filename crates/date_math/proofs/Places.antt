@@ -1,16 +1,15 @@
 -- A triple of year, month and day as one number, its place: the order of triples is that of their places, and moving by years and
 -- months, the day not shortened, moves the place by 384 and 32. Assumes nothing.
-use Prim.Native.Nat.{ℕ, _+_, _*_, _≤_, _<_}
+use Prim.Native.Nat.{ℕ, _+_, _*_, _≤_}
 use native.Mathlib.Omega.{arith}
 use mathlib.Core.Path.{_≡_, refl, sym, _∙_, ap, ap₂}
 use mathlib.Core.Bool.{Bool, true, false, _&&_, _||_}
-use borrow.Author.Tests.{ltb-true, ltb-false, leb-true, leb-false, lt-ltb, le-ltb}
+use borrow.Author.Tests.{ltb-true, ltb-false, leb-true, leb-false}
 use lib.Dec.{ltb, leb}
 use lib.IntN.{ℤ, pos, negℤ, _+ℤ_, _-ℤ_, _*ℤ_}
-use lib.Signed.{ltZ, leZ, _≤ℤ_, _<ℤ_}
-use Rattle.whole.specs.Whole.{_⊖_, fdiv, fmod}
-use Rattle.whole.proofs.Laws.{ints, whole, parts, split, read-add, read-neg, read-times, fdiv-fmod, fmod-lt}
-use Rattle.iso_date.specs.Proposal.{date, balancedYear, balancedMonth}
+use lib.Signed.{ltZ, leZ}
+use Rattle.whole.specs.Whole.{fdiv, fmod}
+use Rattle.whole.proofs.Laws.{ints, whole, parts, read-add, read-neg, read-times, fdiv-fmod, fmod-lt}
 use Rattle.iso_date.specs.declared.IsoDate.{IsoDate}
 use Rattle.date_math.specs.Proposal.{isLater, isoDateSurpasses, directed, movedBy, inYears}
 use Rattle.date_math.specs.Inner.{placeOf}

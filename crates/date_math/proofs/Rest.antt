@@ -3,17 +3,17 @@
 -- Assumes nothing.
 use Prim.Native.Nat.{ℕ, _+_, _-_, _*_, _≤_, _<_, min, max}
 use native.Mathlib.Omega.{arith}
-use mathlib.Core.Path.{_≡_, refl, sym, _∙_, ap, ap₂}
+use mathlib.Core.Path.{_≡_, refl, sym, _∙_, ap}
 use mathlib.Core.Logic.{⊎-elim}
 use mathlib.Core.Bool.{Bool, true, false}
-use lib.IntN.{ℤ, pos, negsuc, negℤ, natAbs, _+ℤ_, _-ℤ_, _*ℤ_}
-use lib.Signed.{ltZ, _≤ℤ_, _<ℤ_}
+use lib.IntN.{ℤ, pos, negℤ, natAbs, _+ℤ_, _-ℤ_, _*ℤ_}
+use lib.Signed.{ltZ, _≤ℤ_}
 use Rattle.whole.specs.Whole.{fdiv, fmod}
-use Rattle.whole.proofs.Laws.{ints, up, dn, split, parts, whole, read-add, read-neg, read-times, range-of, fdiv-fmod, fdiv-unique, fmod-lt}
+use Rattle.whole.proofs.Laws.{ints, size-of, up, dn, split, read-add, read-neg, read-times, range-of, fdiv-fmod, fdiv-unique, fmod-lt}
 use Rattle.iso_date.specs.Proposal.{date, epochDays, isValidISODate, isoDaysInMonth, constrainISODate, clampTo}
 use Rattle.iso_date.specs.declared.IsoDate.{IsoDate}
-use Rattle.iso_date.proofs.Dates.{Valid, read-valid}
-use Rattle.iso_date.proofs.Answers.{constrain-valid, length-positive}
+use Rattle.iso_date.proofs.Dates.{read-valid}
+use Rattle.iso_date.proofs.Answers.{constrain-valid}
 use Rattle.date_math.specs.Proposal.{directed, movedBy, restStart}
 use Rattle.date_math.specs.Inner.{placeOf}
 use Rattle.date_math.proofs.Places.{Proper, later-place, moved-proper, place-moved-on, directed-times, directed-add}
@@ -167,10 +167,6 @@ module _ (forward : Bool) (one two : IsoDate) (v : isValidISODate one ≡ true) 
       (ahead-further forward (placeOf one) (placeOf two) (placeOf t) gap (384 * y + 32 * m) far e within)
 
 -- ---- a distance in a direction
-
-pub size-of : (z : ℤ) → natAbs z ≡ up z + dn z
-size-of (pos n) = omega arith
-size-of (negsuc n) = omega arith
 
 -- how far b lies from a, where it is not behind
 pub distance-of : (forward : Bool) (a b : ℤ) → Ahead forward a b → b ≡ a +ℤ directed forward (natAbs (b -ℤ a))

@@ -4,20 +4,20 @@ use native.Mathlib.Omega.{arith}
 use mathlib.Core.Path.{_≡_, refl, sym, _∙_, ap}
 use mathlib.Core.Bool.{Bool, true, false, cond}
 use borrow.Author.Tests.{le-leb, lt-leb}
-use lib.IntN.{ℤ, pos, negℤ, _+ℤ_, _-ℤ_, _*ℤ_}
-use lib.Signed.{ltZ, leZ, _≤ℤ_, _<ℤ_}
-use Rattle.refusal.specs.Answer.{Answer, given, refused, check, andThen, numberOf}
-use Rattle.whole.specs.Whole.{clampZ, fdiv}
+use lib.IntN.{ℤ, pos, negℤ, _+ℤ_, _*ℤ_}
+use lib.Signed.{ltZ, _≤ℤ_}
+use Rattle.refusal.specs.Answer.{Answer, given, refused, check, numberOf}
+use Rattle.whole.specs.Whole.{fdiv}
 use Rattle.whole.proofs.Laws.{ints, read-add}
 use Rattle.whole.proofs.Edges.{clamp-same}
 use Rattle.iso_date.specs.Proposal.{date, dayFromYear, leapYear, daysBeforeMonth, epochDays, epochDaysToISODate, isValidISODate, isoDateWithinLimits, constrainISODate}
 use Rattle.iso_date.specs.Paper.{balanced, dateLimits, regulateDate, makeDate, dayToDate}
 use Rattle.iso_date.specs.declared.IsoDate.{IsoDate}
-use Rattle.iso_date.proofs.Dates.{Valid, read-valid, day-in-year, in-year, there-and-back, back-and-there}
-use Rattle.iso_date.proofs.Answers.{in-range, constrain-valid}
+use Rattle.iso_date.proofs.Dates.{read-valid, day-in-year, in-year, there-and-back, back-and-there}
+use Rattle.iso_date.proofs.Answers.{in-range}
 use Rattle.iso_date.proofs.Theorems.{limits-are}
 use Rattle.iso_date.proofs.Years.{year-length}
-use Rattle.date_duration.specs.Proposal.{isValidDuration, duration}
+use Rattle.date_duration.specs.Proposal.{isValidDuration}
 use Rattle.date_duration.specs.declared.DateDuration.{DateDuration}
 use Rattle.options.specs.declared.Overflow.{Overflow}
 use Rattle.options.specs.declared.Overflow.the-variants.{Constrain}

@@ -1,16 +1,15 @@
 -- Demand 3: for every two valid dates within the limits and each unit from year to day the difference is given, meets the rules, and
 -- is the only record that does. Assumes nothing.
-use Prim.Native.Nat.{ℕ, zero, suc, _+_, _-_, _*_, _/_, _^_, _≤_, _<_}
+use Prim.Native.Nat.{ℕ, _+_, _-_, _*_, _/_, _^_, _≤_, _<_}
 use native.Mathlib.Omega.{arith}
 use mathlib.Core.Path.{_≡_, refl, sym, _∙_, ap, subst}
-use mathlib.Core.Bool.{Bool, true, false, not, cond, _&&_, _||_}
+use mathlib.Core.Bool.{Bool, true, false, _&&_, _||_}
 use borrow.Author.Tests.{lt-ltb}
-use lib.Dec.{ltb}
-use lib.IntN.{ℤ, pos, negsuc, negℤ, natAbs, _+ℤ_, _-ℤ_, _*ℤ_, +ℤ-assoc}
-use lib.Signed.{ltZ, _≤ℤ_, _<ℤ_}
-use Rattle.refusal.specs.Answer.{given, check}
-use Rattle.whole.proofs.Laws.{ints, range-of, read-add, read-neg, read-times}
-use Rattle.iso_date.specs.Proposal.{epochDays, isValidISODate, isoDateWithinLimits, constrainISODate}
+use lib.IntN.{ℤ, pos, negℤ, natAbs, _+ℤ_, _-ℤ_, _*ℤ_, +ℤ-assoc}
+use lib.Signed.{ltZ, _≤ℤ_}
+use Rattle.refusal.specs.Answer.{given}
+use Rattle.whole.proofs.Laws.{ints, size-of, range-of, read-add, read-neg, read-times}
+use Rattle.iso_date.specs.Proposal.{epochDays, isValidISODate, isoDateWithinLimits}
 use Rattle.iso_date.specs.Paper.{dayToDate}
 use Rattle.iso_date.specs.declared.IsoDate.{IsoDate}
 use Rattle.iso_date.proofs.Answers.{constrain-valid}
@@ -20,14 +19,14 @@ use Rattle.options.specs.declared.Overflow.the-variants.{Constrain}
 use Rattle.options.specs.declared.Unit.{Unit as DateUnit}
 use Rattle.date_math.specs.Proposal.{directed, movedBy, inYears, restStart, countsYears, countsMonths, countsWeeks, calendarDateUntil}
 use Rattle.date_math.specs.Paper.{isDateUnit, dateSum, dateDifference}
-use Rattle.date_math.specs.Rules.{onTheWay, Most, MeetsTheRules}
+use Rattle.date_math.specs.Rules.{onTheWay, MeetsTheRules}
 use Rattle.date_math.specs.Inner.{placeOf, yearsIn, monthsIn, weeksIn}
-use Rattle.date_math.proofs.Places.{Proper, place-years, place-moved, moved-proper, years-proper, directed-times, directed-add}
-use Rattle.date_math.proofs.Order.{valid-proper}
-use Rattle.date_math.proofs.Rest.{Ahead, rest-between, size-of, distance-of, distance-is}
+use Rattle.date_math.proofs.Places.{later-place, place-years, place-moved, moved-proper, years-proper, directed-times, directed-add}
+use Rattle.date_math.proofs.Order.{valid-proper, later-day}
+use Rattle.date_math.proofs.Rest.{Ahead, rest-between, distance-of}
 use Rattle.date_math.proofs.Until.{within-years, years-within, months-within, weeks-within, closed, difference-is}
 use Rattle.date_math.proofs.Most.{between, way-is, size-directed, most-of, most-is}
-use Rattle.date_math.proofs.Sums.{Fine, fine, fine-within, fine-limits, limit-year, sum-goes, sum-back, day-back}
+use Rattle.date_math.proofs.Sums.{Fine, fine, fine-limits, limit-year, sum-goes, sum-back, day-back}
 
 -- ---- parts of one direction
 
@@ -329,7 +328,7 @@ module _ (one two : IsoDate) (unit : DateUnit) (one-fine : Fine one) (two-fine :
 -- ---- for every two dates: the direction and the gap are found
 
 module _ {A : Type 0} (one two : IsoDate) (go-on : (forward : Bool) (gap : ℕ) → placeOf two ≡ placeOf one +ℤ directed forward gap → A) where
-  in-some-direction : A
+  pub in-some-direction : A
   in-some-direction = go (ltZ (placeOf two) (placeOf one)) refl
     where
       gap : ℕ
@@ -338,6 +337,44 @@ module _ {A : Type 0} (one two : IsoDate) (go-on : (forward : Bool) (gap : ℕ) 
       go : (t : Bool) → ltZ (placeOf two) (placeOf one) ≡ t → A
       go true e = go-on false gap (distance-of false (placeOf one) (placeOf two) (omega (arith, ints)))
       go false e = go-on true gap (distance-of true (placeOf one) (placeOf two) (omega (arith, ints)))
+
+-- ---- every part has the direction in which the second date lies ahead
+
+places-by-days : (a b : IsoDate) → isValidISODate a ≡ true → isValidISODate b ≡ true → epochDays a ≤ℤ epochDays b → placeOf a ≤ℤ placeOf b
+places-by-days a b v w h =
+    go (placeOf a) (placeOf b) (epochDays a) (epochDays b)
+    (sym (later-place a b (valid-proper a v) (valid-proper b w)) ∙ later-day a b v w) h
+  where
+    go : (p q x y : ℤ) → ltZ q p ≡ ltZ y x → x ≤ℤ y → p ≤ℤ q
+    go p q x y e h = let f : ltZ y x ≡ false = omega (arith, ints) in let g : ltZ q p ≡ false = e ∙ f in omega (arith, ints)
+
+places-ahead : (forward : Bool) (a b : IsoDate) → isValidISODate a ≡ true → isValidISODate b ≡ true →
+    Ahead forward (epochDays a) (epochDays b) → Ahead forward (placeOf a) (placeOf b)
+places-ahead true a b v w h = places-by-days a b v w h
+places-ahead false a b v w h = places-by-days b a w v h
+
+pub record PartsAhead (forward : Bool) (r : DateDuration) : Type 0 where
+  pub years : ℕ
+  pub months : ℕ
+  pub weeks : ℕ
+  pub days : ℕ
+  pub are : r ≡ duration (directed forward years) (directed forward months) (directed forward weeks) (directed forward days)
+
+pub parts-ahead : (forward : Bool) (one two : IsoDate) (unit : DateUnit) → isValidISODate one ≡ true → isValidISODate two ≡ true →
+    Ahead forward (epochDays one) (epochDays two) → PartsAhead forward (calendarDateUntil one two unit)
+parts-ahead forward one two unit v w h =
+    let gap : ℕ = natAbs (placeOf two -ℤ placeOf one) in
+    let far = distance-of forward (placeOf one) (placeOf two) (places-ahead forward one two v w h) in
+    let start : IsoDate = restStart forward one (yearsIn unit gap) (monthsIn unit gap) in
+    let rest : ℕ = natAbs (epochDays two -ℤ epochDays start) in
+    let lies = rest-between forward one two v w gap (yearsIn unit gap) (monthsIn unit gap) far (months-within unit gap) in
+    record {
+      years = yearsIn unit gap;
+      months = monthsIn unit gap;
+      weeks = weeksIn unit rest;
+      days = rest - 7 * weeksIn unit rest;
+      are = difference-is forward one two unit v w gap rest far (distance-of forward (epochDays start) (epochDays two) (lies .1));
+    }
 
 -- ---- demand 3
 

@@ -3,28 +3,27 @@
 use Prim.Native.Nat.{ℕ, _+_, _-_, _*_, _/_, _≤_, _<_}
 use native.Mathlib.Nat.{mul-le-mul-right}
 use native.Mathlib.Omega.{arith}
-use mathlib.Core.Path.{_≡_, refl, sym, _∙_, ap, ap₂}
+use mathlib.Core.Path.{_≡_, refl, sym, _∙_, ap}
 use mathlib.Core.Bool.{Bool, true, false, not, cond}
 use borrow.Author.Tests.{ltb-true, ltb-false, leb-true, leb-false}
 use lib.Dec.{ltb, leb}
 use lib.IntN.{ℤ, pos, negℤ, natAbs, _+ℤ_, _-ℤ_, _*ℤ_}
-use lib.Signed.{ltZ, _≤ℤ_}
+use lib.Signed.{ltZ}
 use Rattle.whole.specs.Whole.{_⊖_}
-use Rattle.whole.proofs.Laws.{ints, whole, parts, range-of, read-add, read-neg, read-times}
+use Rattle.whole.proofs.Laws.{ints, size-of, whole, range-of, read-add, read-neg, read-times}
 use Rattle.iso_date.specs.Proposal.{epochDays, epochDaysToISODate, isValidISODate}
 use Rattle.iso_date.specs.Inner.{yearBias, dayBias}
 use Rattle.iso_date.specs.declared.IsoDate.{IsoDate}
 use Rattle.iso_date.proofs.Dates.{back-valid, back-and-there}
-use Rattle.iso_date.proofs.Answers.{constrain-valid}
 use Rattle.date_duration.specs.Proposal.{duration}
 use Rattle.date_duration.specs.declared.DateDuration.{DateDuration}
 use Rattle.options.specs.declared.Unit.{Unit as DateUnit}
 use Rattle.date_math.specs.Proposal.{isLater, isoDateSurpasses, directed, movedBy, inYears, addDaysToISODate, yearsUntil, monthsUntil, restStart, daysUntil, yearsFound, monthsFound, weeksFound, restFound, dateUntil, calendarDateUntil, countsYears, countsMonths, countsWeeks}
 use Rattle.date_math.specs.Inner.{placeOf, placeBias, yearsIn, monthsIn, weeksIn, apart}
 use Rattle.date_math.proofs.Kept.{kept-is}
-use Rattle.date_math.proofs.Places.{Proper, later-place, place-years, moved-proper, years-proper, place-moved-on, directed-times, directed-add, surpasses-by, beyond-is, surpasses-is}
+use Rattle.date_math.proofs.Places.{later-place, place-years, moved-proper, years-proper, place-moved-on, directed-times, surpasses-by, beyond-is, surpasses-is}
 use Rattle.date_math.proofs.Order.{valid-proper, later-day}
-use Rattle.date_math.proofs.Rest.{Ahead, rest-between, fold-years, size-of, distance-of, distance-is}
+use Rattle.date_math.proofs.Rest.{Ahead, rest-between, fold-years, distance-is}
 
 -- ---- years and months
 

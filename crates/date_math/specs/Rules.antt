@@ -2,7 +2,7 @@
 -- zero and weeks stand only under week; the years, then the months, are the most that can be moved before the first date, its day not
 -- shortened, passes the second; what is left is days, under week whole weeks and fewer than seven days; no part opposes another in
 -- sign; and the sum, under constrain, gives the second date.
-use Prim.Native.Nat.{ℕ, _<_}
+use Prim.Native.Nat.{_<_}
 use mathlib.Core.Path.{_≡_}
 use mathlib.Core.Bool.{Bool, true, false, not, _&&_, _||_}
 use lib.IntN.{ℤ, pos, natAbs}

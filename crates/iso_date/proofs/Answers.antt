@@ -6,11 +6,11 @@ use mathlib.Core.Bool.{Bool, true, false, _&&_}
 use borrow.Author.Tests.{le-leb, lt-leb}
 use lib.Dec.{leb}
 use lib.ListN.{getD}
-use lib.IntN.{ℤ, pos, negℤ, _+ℤ_, _-ℤ_, _*ℤ_}
+use lib.IntN.{ℤ, pos, negℤ, natAbs, _+ℤ_, _-ℤ_, _*ℤ_}
 use lib.Signed.{ltZ, leZ, _≤ℤ_, _<ℤ_}
 use Rattle.refusal.specs.Answer.{given, refused, check}
 use Rattle.whole.specs.Whole.{_⊖_, fmod, clampZ}
-use Rattle.whole.proofs.Laws.{whole, ints, ⊖-same, read-add, read-diff, read-times}
+use Rattle.whole.proofs.Laws.{whole, ints, ⊖-same, ⊖-add, size-of, range-of, read-add, read-diff, read-times}
 use Rattle.iso_date.specs.Proposal.{date, leapYear, monthLengths, isoDaysInMonth, dayFromMonth, isoDateToEpochDays, epochDays, epochDaysToISODate, isValidISODate, balancedYear, constrainISODate, clampTo, momentWithinLimits, isoDateWithinLimits, noon, nsPerDay, nsLimit}
 use Rattle.iso_date.specs.Paper.{monthLength, balanced, yearMonth, balanceYearMonth, dateToDay, dayToDate, regulateDate, makeDate, dateLimits, balanceDate}
 use Rattle.iso_date.specs.Inner.{yearBias, monthBias, dayBias, Balances}
@@ -196,11 +196,11 @@ module _ (y m day : ℤ) (u t year index n : ℕ) (e : y ≡ u ⊖ yearBias) (f 
       let j : balancedYear y m ≡ year ⊖ yearBias = rw (e, f) (sym (b .year-is)) in
       rw (j, i, g)
 
-  pub count-low : n < 2 ^ 50 → day <ℤ negℤ (pos 1000000000000000000) → refused 4 ≡ balanceDate y m day
+  pub count-low : n < 2 ^ 50 → day <ℤ negℤ (pos 900000000000000000) → refused 4 ≡ balanceDate y m day
   unfolding balanceDate
   count-low h k = rw count-is (date-far _ (too-low _ (omega (arith, ints, read-diff n dayBias, read-add (n ⊖ dayBias) day, read-add ((n ⊖ dayBias) +ℤ day) (negℤ (pos 1))))))
 
-  pub count-high : n < 2 ^ 50 → pos 1000000000000000000 <ℤ day → refused 4 ≡ balanceDate y m day
+  pub count-high : n < 2 ^ 50 → pos 900000000000000000 <ℤ day → refused 4 ≡ balanceDate y m day
   unfolding balanceDate
   count-high h k = rw count-is (date-far _ (too-high _ (omega (arith, ints, read-diff n dayBias, read-add (n ⊖ dayBias) day, read-add ((n ⊖ dayBias) +ℤ day) (negℤ (pos 1))))))
 
@@ -209,6 +209,34 @@ module _ (y m day : ℤ) (u t year index n : ℕ) (e : y ≡ u ⊖ yearBias) (f 
   count-sum z s k h i =
       let j : (n + s) ⊖ (dayBias + (k + 1)) ≡ (n ⊖ dayBias) +ℤ day -ℤ pos 1 = rw h (simp whole (omega arith)) in
       ap dayToDate (i ∙ j ∙ sym count-is)
+
+-- a carry is small beside such a day
+module _ (day carry : ℤ) (few : natAbs carry < 2 ^ 52) where
+  pub carried-low : day <ℤ negℤ (pos 1000000000000000000) → (day +ℤ carry) <ℤ negℤ (pos 900000000000000000)
+  carried-low h = omega (arith, ints, read-add day carry, size-of carry, range-of carry)
+
+  pub carried-high : pos 1000000000000000000 <ℤ day → pos 900000000000000000 <ℤ (day +ℤ carry)
+  carried-high h = omega (arith, ints, read-add day carry, size-of carry, range-of carry)
+
+module _ (carry : ℤ) (few : natAbs carry < 2 ^ 52) where
+  pub carry-low : (0 ⊖ 4503599627370496) ≤ℤ carry
+  carry-low = omega (arith, ints, read-diff 0 4503599627370496, size-of carry, range-of carry)
+
+  pub carry-high : carry <ℤ ((2 ^ 63) ⊖ 4503599627370496)
+  carry-high = omega (arith, ints, read-diff (2 ^ 63) 4503599627370496, size-of carry, range-of carry)
+
+  pub carry-raised : (r : ℕ) → carry ≡ r ⊖ 4503599627370496 → r < 2 ^ 53
+  carry-raised r e = omega (arith, ints, read-diff r 4503599627370496, size-of carry, range-of carry)
+
+-- as a natural it is at most twice what it was raised by
+pub day-raised : (day : ℤ) (r : ℕ) → day ≤ℤ pos 1000000000000000000 → day ≡ r ⊖ 1000000000000000000 → r ≤ 2000000000000000000
+day-raised day r h e = omega (arith, ints, read-diff r 1000000000000000000)
+
+pub carried-sum : (day carry : ℤ) (a b k l : ℕ) → day ≡ a ⊖ k → carry ≡ b ⊖ l → day +ℤ carry ≡ (a + b) ⊖ (k + l)
+carried-sum day carry a b k l e f = rw (e, f) (⊖-add a k b l)
+
+pub no-carry : (day : ℤ) → day +ℤ pos 0 ≡ day
+no-carry day = omega (arith, ints, read-add day (pos 0))
 
 -- ---- tests of the code as orders, and what is left of a test
 

@@ -1,14 +1,16 @@
 // Years and days as naturals. A year is counted from -8,000,000,000, a multiple of 400, so that leap years fall as in year 0, and a
 // day from the first day of that year; every year that a call can reach, and every day count that matters, is then a natural.
+use crate::DateResult;
 use crate::IsoDate;
 ghost use mathlib.Core.Path.{_≡_};
 ghost use mathlib.Core.Bool.{cond};
 ghost use Prim.Native.Nat.{_+_, _-_, _*_, _<_, _≤_, _^_};
 ghost use lib.ListN.{getD};
 ghost use mathlib.Core.Bool.{true};
-ghost use lib.IntN.{pos, negℤ};
+ghost use lib.IntN.{pos, negℤ, natAbs, _+ℤ_};
 ghost use Rattle.whole.specs.Whole.{_⊖_, clampZ};
 ghost use Rattle.iso_date.specs.Proposal.{leapYear, monthLengths, isoDaysInMonth, daysBeforeMonth, dayFromMonth, isValidISODate, epochDays, epochDaysToISODate, isoDateWithinLimits, clampTo};
+ghost use Rattle.iso_date.specs.Paper.{ofDate, balanceDate};
 ghost use Rattle.iso_date.specs.Inner.{yearBias, monthBias, dayBias, yearStart, YearHolds, MonthHolds, Balances};
 
 pub const YEAR_BIAS: u64 = 8_000_000_000;
@@ -17,6 +19,9 @@ pub const DAY_BIAS: u64 = 2_921_940_719_528;
 
 // As many months as lie in 400,000,000 years, so that a month of 32 bits, or one moved by a duration, is a natural.
 pub const MONTH_BIAS: u64 = 4_800_000_000;
+
+// More than any carry of a balanced time.
+const CARRY_BIAS: u64 = 4_503_599_627_370_496;
 
 // The lengths of the months of a common year.
 const MONTH_LENGTHS: [u8; 12] = [31, 28, 31, 30, 31, 30, 31, 31, 30, 31, 30, 31];
@@ -223,4 +228,27 @@ pub fn within_limits(date: IsoDate) -> bool
         return false;
     }
     day <= 100_000_000
+}
+
+// The date of any year, month and day with a carry of days, by the exact day count; 4 past the balanced range.
+pub fn balance_sum(year: i32, month: i32, day: i64, carry: i64) -> DateResult
+    requires { ⌜ natAbs carry < 2 ^ 52 ⌝ }
+    ensures { λ r. ⌜ ofDate r ≡ balanceDate year month (day +ℤ carry) ⌝ }
+{
+    let b = balance_up(year_up(year), month_up(month));
+    let first = month_start(b.year, b.index);
+    // Past this no month's first day brings the sum back into the balanced range; within it the sum is a natural.
+    if day < -1_000_000_000_000_000_000 {
+        return DateResult::Refused(refusal::DAY_COUNT);
+    }
+    if day > 1_000_000_000_000_000_000 {
+        return DateResult::Refused(refusal::DAY_COUNT);
+    }
+    let sum = first
+        + (whole::inner::raise(day, 1_000_000_000_000_000_000)
+            + whole::inner::raise(carry, CARRY_BIAS));
+    IsoDate::from_epoch_days(whole::inner::lower(
+        sum,
+        DAY_BIAS + (1_000_000_000_000_000_000 + CARRY_BIAS + 1),
+    ))
 }

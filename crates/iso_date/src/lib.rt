@@ -175,19 +175,6 @@ impl IsoDate {
     pub fn try_balance(year: i32, month: i32, day: i64) -> DateResult
         ensures { λ r. ⌜ ofDate r ≡ balanceDate year month day ⌝ }
     {
-        let b = inner::balance_up(inner::year_up(year), inner::month_up(month));
-        let first = inner::month_start(b.year, b.index);
-        // Past this no month's first day brings the sum back into the balanced range; within it the sum is a natural.
-        if day < -1_000_000_000_000_000_000 {
-            return DateResult::Refused(refusal::DAY_COUNT);
-        }
-        if day > 1_000_000_000_000_000_000 {
-            return DateResult::Refused(refusal::DAY_COUNT);
-        }
-        let sum = first + whole::inner::raise(day, 1_000_000_000_000_000_000);
-        IsoDate::from_epoch_days(whole::inner::lower(
-            sum,
-            inner::DAY_BIAS + 1_000_000_000_000_000_001,
-        ))
+        inner::balance_sum(year, month, day, 0)
     }
 }

@@ -130,6 +130,10 @@ module _ (t : IsoTime) (unit : TimeUnit) (inc : ℕ) (mode : RoundingMode) (some
       let u = units-are in
       rw (u .0) (with-units unit t (result / unitLength unit) some .0 ∙ ap pos (rw (u .1) refl))
 
+  pub round-valid : Valid (roundTime t inc unit mode .time)
+  unfolding roundTime
+  round-valid = let u = units-are in rw (u .0) (with-units unit t (result / unitLength unit) some .1)
+
   pub round-is : (b : BalancedTime) (n q len r : ℕ) (rule : UnsignedRoundingMode) → n ≡ nanoseconds t → q ≡ quantity unit t → len ≡ unitLength unit →
       rule ≡ getUnsignedRoundingMode mode false → r ≡ roundedSize q (inc * len) rule → Carried (n - q + r) b → b ≡ roundTime t inc unit mode
   unfolding roundTime

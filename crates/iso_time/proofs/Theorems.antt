@@ -1,23 +1,24 @@
 -- What holds of times beyond the contracts. Assumes nothing.
 use Rattle.options.specs.declared.Unit.{Unit as TimeUnit}
 use Prim.Native.Nat.{ℕ, suc, _+_, _-_, _*_, _<_}
-use native.Mathlib.Nat.{div-add-mod}
+use native.Mathlib.Nat.{div-add-mod, le-of-lt}
 use native.Mathlib.Omega.{arith}
 use mathlib.Core.Path.{_≡_, sym, _∙_, ap}
 use mathlib.Core.Bool.{true, false}
 use lib.IntN.{ℤ, pos, negsuc, negℤ, _+ℤ_, _-ℤ_, _*ℤ_}
-use lib.Signed.{quotZ, remZ}
-use Rattle.whole.proofs.Laws.{whole, ints, read-add, read-neg}
+use lib.Signed.{quotZ, remZ, _≤ℤ_}
+use Rattle.whole.proofs.Laws.{whole, ints, read-add, read-neg, read-times}
 use Rattle.rounding.specs.Proposal.{getUnsignedRoundingMode}
 use Rattle.rounding.specs.Inner.{roundedSize}
 use Rattle.rounding.specs.declared.RoundingMode.{RoundingMode}
 use Rattle.rounding.proofs.Rounds.{rounded-multiple, rounded-near}
 use Rattle.iso_time.specs.Proposal.{isValidTime, balanceTime, nanoseconds, differenceTime, quantity, unitLength, roundTime, validIncrement}
+use Rattle.iso_time.specs.Inner.{nsPerDay}
 use Rattle.iso_time.specs.declared.IsoTime.{IsoTime}
 use Rattle.iso_time.specs.declared.BalancedTime.{BalancedTime}
 use Rattle.iso_time.specs.declared.TimeDuration.{TimeDuration}
-use Rattle.iso_time.proofs.Times.{Valid, exact, flat, show-valid, balance-exact, balance-valid, one-balanced}
-use Rattle.iso_time.proofs.Rounding.{step-some, round-exact}
+use Rattle.iso_time.proofs.Times.{Valid, exact, flat, read-valid, show-valid, below-day, balance-exact, balance-valid, one-balanced}
+use Rattle.iso_time.proofs.Rounding.{quantity-le, allowed, step-some, round-exact, round-valid, below-two}
 
 -- ---- balancing is inverse to flattening
 
@@ -35,7 +36,7 @@ balance-is-one h m s ms us ns b v e =
 
 -- ---- the difference of two times added to the first gives the second
 
-cut-back : (z : ℤ) → pos 1000000000 *ℤ quotZ z (pos 1000000000) +ℤ remZ z (pos 1000000000) ≡ z
+pub cut-back : (z : ℤ) → pos 1000000000 *ℤ quotZ z (pos 1000000000) +ℤ remZ z (pos 1000000000) ≡ z
 cut-back (pos n) = ap pos (omega (arith, div-add-mod n 1000000000))
 cut-back (negsuc n) = simp whole (omega (arith, div-add-mod (suc n) 1000000000))
 
@@ -78,3 +79,20 @@ rounded-time-is-near t unit inc mode v some ok =
       not-far-above = n .0;
       not-far-below = n .1;
     }
+
+-- ---- a rounded time is a time of the day or of the next
+
+pub rounded-time-is-a-time : (t : IsoTime) (unit : TimeUnit) (inc : ℕ) (mode : RoundingMode) → isValidTime t ≡ true → 0 < unitLength unit →
+    validIncrement unit inc ≡ true → (isValidTime (roundTime t inc unit mode .time) ≡ true) ×
+    ((pos 0 ≤ℤ roundTime t inc unit mode .days) × (roundTime t inc unit mode .days ≤ℤ pos 1))
+rounded-time-is-a-time t unit inc mode v some ok =
+    let n = rounded-time-is-near t unit inc mode v some ok in
+    let w = round-valid t unit inc mode some ok in
+    let few =
+    below-two (nanoseconds t) (quantity unit t) (inc * unitLength unit) (n .rounded) (quantity-le unit t) (below-day t (read-valid t v)) (allowed unit inc some ok .1)
+    (le-of-lt (n .not-far-above)) in
+    (show-valid (roundTime t inc unit mode .time) w, days (roundTime t inc unit mode .days) (nanoseconds (roundTime t inc unit mode .time)) _ (below-day (roundTime t inc unit mode .time) w) few (n .larger-kept))
+  where
+    days : (d : ℤ) (k n : ℕ) → k < nsPerDay → n < nsPerDay + nsPerDay → pos nsPerDay *ℤ d +ℤ pos k ≡ pos n → (pos 0 ≤ℤ d) × (d ≤ℤ pos 1)
+    days d k n h l e =
+        (omega (arith, ints, read-times nsPerDay d, read-add (pos nsPerDay *ℤ d) (pos k)), omega (arith, ints, read-times nsPerDay d, read-add (pos nsPerDay *ℤ d) (pos k)))

@@ -1,13 +1,13 @@
 -- Times as one number: fields and nanoseconds, and the balance of six fields. Assumes nothing.
-use Prim.Native.Nat.{ℕ, _+_, _*_, _/_, _%_, _≤_, _<_, min}
+use Prim.Native.Nat.{ℕ, _+_, _*_, _/_, _%_, _≤_, _<_}
 use native.Mathlib.Nat.{mod-lt, div-add-mod}
 use native.Mathlib.Omega.{arith}
 use mathlib.Core.Path.{_≡_, refl, sym, _∙_, ap, ap₂}
 use mathlib.Core.Bool.{true}
 use borrow.Author.Tests.{leb-true, le-leb}
-use lib.IntN.{ℤ, pos, negsuc, negℤ, natAbs, _+ℤ_, _-ℤ_, _*ℤ_}
+use lib.IntN.{ℤ, pos, negℤ, _+ℤ_, _-ℤ_, _*ℤ_}
 use Rattle.whole.specs.Whole.{_⊖_, fdiv, fmod}
-use Rattle.whole.proofs.Laws.{up, dn, parts, whole, ints, ⊖-add, fdiv-fmod, fdiv-unique, fmod-lt, quotient, of-pos, read-add, read-neg}
+use Rattle.whole.proofs.Laws.{parts, whole, ints, ⊖-add, fdiv-fmod, fdiv-unique, fmod-lt, quotient, of-pos, read-add, read-neg}
 use Rattle.whole.proofs.Tests.{both}
 use Rattle.iso_time.specs.Proposal.{time, isValidTime, balanced, balanceTime, nanoseconds}
 use Rattle.iso_time.specs.Inner.{fieldBias, nsPerDay}
@@ -180,8 +180,3 @@ one-balanced a b v w e =
     let f = fdiv-unique (exact a) (a .days) nsPerDay (nanoseconds (a .time)) (below-day (a .time) v) refl in
     let g = fdiv-unique (exact a) (b .days) nsPerDay (nanoseconds (b .time)) (below-day (b .time) w) e in
     ap₂ balanced (sym (f .0) ∙ g .0) (sym (time-back (a .time) v) ∙ ap timeAt (sym (f .1) ∙ g .1) ∙ time-back (b .time) w)
-
--- the size of a number, as omega reads it
-pub size-of : (z : ℤ) → (natAbs z ≡ up z + dn z) × (min (up z) (dn z) ≡ 0)
-size-of (pos n) = omega arith
-size-of (negsuc n) = omega arith

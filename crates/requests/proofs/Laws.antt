@@ -22,9 +22,10 @@ use Rattle.options.specs.declared.Unit.{Unit as TimeUnit}
 use Rattle.options.specs.declared.Unit.the-variants as U
 use Rattle.rounding.specs.declared.RoundingMode.{RoundingMode}
 use Rattle.rounding.specs.declared.RoundingMode.the-variants as M
+use Rattle.iso_date.specs.declared.IsoDate.{IsoDate}
 use Rattle.iso_time.specs.declared.IsoTime.{IsoTime}
 use Rattle.requests.specs.Protocol.{Kind, Arguments, these, noArguments, also, arguments, Reply, question, answer, said, replyText}
-use Rattle.requests.specs.Calls.{units, modes, unitOf, modeOf, timeValues, partAt, kindsOf, meaningOf, replyOf, replyTo, responseTo, overflowOf}
+use Rattle.requests.specs.Calls.{units, modes, unitOf, modeOf, dateValues, timeValues, partAt, kindsOf, meaningOf, replyOf, replyTo, responseTo, overflowOf}
 use Rattle.requests.specs.Meaning.{Says, readAs, collect, overflowNumber, unitNumber, modeNumber, choiceValues}
 use Rattle.date_duration.specs.declared.Part.the-variants.{Kept, Given}
 use Rattle.requests.specs.declared.read.Choice.{Choice}
@@ -225,6 +226,10 @@ three-same a b c x y z e f g = rw (e, f, g)
 pub time-same : (t : IsoTime) (a b c d e f : ℤ) → a ≡ pos (t .hour) → b ≡ pos (t .minute) → c ≡ pos (t .second) → d ≡ pos (t .millisecond) → e ≡ pos (t .microsecond) →
     f ≡ pos (t .nanosecond) → a ∷ b ∷ c ∷ d ∷ e ∷ f ∷ [] ≡ timeValues t
 time-same t a b c d e f p q r s u v = rw (p, q, r, s, u, v)
+
+pub date-then : (d : IsoDate) (a b c : ℤ) (l m : List ℤ) → a ≡ d .year → b ≡ pos (d .month) → c ≡ pos (d .day) → l ≡ m →
+    a ∷ b ∷ c ∷ l ≡ dateValues d ++ m
+date-then d a b c l m p q r s = rw (p, q, r, s)
 
 pub two-same : (a b x y : ℤ) → a ≡ x → b ≡ y → answer 0 (a ∷ b ∷ []) ≡ answer 0 (x ∷ y ∷ [])
 two-same a b x y e f = rw (e, f)

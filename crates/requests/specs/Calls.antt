@@ -30,6 +30,10 @@ use Rattle.date_duration.specs.declared.Sign.the-variants as S
 use Rattle.date_duration.specs.declared.Part.{Part}
 use Rattle.date_duration.specs.declared.Part.the-variants as P
 use Rattle.date_math.specs.Paper.{dateSum, dateDifference}
+use Rattle.iso_date_time.specs.Proposal.{dateTime}
+use Rattle.iso_date_time.specs.Paper.{dateTimeLimits, balanceDateTime, roundDateTime, dateTimeDifference, fromInstant}
+use Rattle.iso_date_time.specs.declared.IsoDateTime.{IsoDateTime}
+use Rattle.iso_date_time.specs.declared.InternalDurationRecord.{InternalDurationRecord}
 use Rattle.options.specs.declared.Overflow.{Overflow}
 use Rattle.options.specs.declared.Overflow.the-variants.{Constrain, Reject}
 use Rattle.options.specs.declared.Unit.{Unit as TimeUnit}
@@ -50,6 +54,9 @@ timeKinds = unsigned 8 ∷ unsigned 8 ∷ unsigned 8 ∷ unsigned 16 ∷ unsigne
 -- six fields that are to be balanced
 abbrev pub partsKinds : List Kind
 partsKinds = signed 64 ∷ signed 64 ∷ signed 64 ∷ signed 64 ∷ signed 64 ∷ signed 64 ∷ []
+
+abbrev pub dateTimeKinds : List Kind
+dateTimeKinds = dateKinds ++ timeKinds
 
 abbrev pub unitKind : Kind
 unitKind = oneOf 10
@@ -86,6 +93,11 @@ kindsOf C.DurationNegated = durationKinds
 kindsOf C.DurationAdjust = durationKinds ++ (signed 64 ∷ (choiceKinds ++ choiceKinds))
 kindsOf C.DateSum = dateKinds ++ (durationKinds ++ (overflowKind ∷ []))
 kindsOf C.DateDifference = dateKinds ++ (dateKinds ++ (unitKind ∷ []))
+kindsOf C.DateTimeLimits = dateTimeKinds
+kindsOf C.BalanceDateTime = signed 32 ∷ signed 32 ∷ signed 64 ∷ partsKinds
+kindsOf C.RoundDateTime = dateTimeKinds ++ (unitKind ∷ unsigned 64 ∷ modeKind ∷ [])
+kindsOf C.DateTimeDifference = dateTimeKinds ++ (dateTimeKinds ++ (unitKind ∷ []))
+kindsOf C.DateTimeFromInstant = signed 64 ∷ signed 64 ∷ signed 64 ∷ []
 kindsOf C.Unknown = []
 
 -- ---- answers: the numbers of a request as the call's parameters, and an answer's values in their order
@@ -104,6 +116,9 @@ overflowOf z = cond (eqb (natAbs z) 0) Constrain Reject
 
 abbrev pub timeAt : List ℤ → ℕ → IsoTime
 timeAt zs i = time (natAt zs i) (natAt zs (i + 1)) (natAt zs (i + 2)) (natAt zs (i + 3)) (natAt zs (i + 4)) (natAt zs (i + 5))
+
+abbrev pub dateTimeAt : List ℤ → ℕ → IsoDateTime
+dateTimeAt zs i = dateTime (dateAt zs i) (timeAt zs (i + 3))
 
 -- units and modes by their numbers, from 0
 abbrev pub units : List TimeUnit
@@ -147,6 +162,12 @@ spanValues d = d .seconds ∷ d .nanoseconds ∷ []
 abbrev pub durationValues : DateDuration → List ℤ
 durationValues d = d .years ∷ d .months ∷ d .weeks ∷ d .days ∷ []
 
+abbrev pub dateTimeValues : IsoDateTime → List ℤ
+dateTimeValues r = dateValues (r .date) ++ timeValues (r .time)
+
+abbrev pub recordValues : InternalDurationRecord → List ℤ
+recordValues d = durationValues (d .date) ++ spanValues (d .time)
+
 abbrev pub signNumber : Sign → ℤ
 signNumber S.Negative = negℤ (pos 1)
 signNumber S.Zero = pos 0
@@ -174,6 +195,12 @@ meaningOf C.DurationNegated zs = values durationValues (durationNegated (duratio
 meaningOf C.DurationAdjust zs = values durationValues (durationAdjust (durationAt zs 0) (at zs 4) (partAt zs 5) (partAt zs 7))
 meaningOf C.DateSum zs = values dateValues (dateSum (dateAt zs 0) (durationAt zs 3) (overflowOf (at zs 7)))
 meaningOf C.DateDifference zs = values durationValues (dateDifference (dateAt zs 0) (dateAt zs 3) (unitOf (at zs 6)))
+meaningOf C.DateTimeLimits zs = values (λ u. []) (dateTimeLimits (dateTimeAt zs 0))
+meaningOf C.BalanceDateTime zs =
+    values dateTimeValues (balanceDateTime (at zs 0) (at zs 1) (at zs 2) (at zs 3) (at zs 4) (at zs 5) (at zs 6) (at zs 7) (at zs 8))
+meaningOf C.RoundDateTime zs = values dateTimeValues (roundDateTime (dateTimeAt zs 0) (unitOf (at zs 9)) (natAt zs 10) (modeOf (at zs 11)))
+meaningOf C.DateTimeDifference zs = values recordValues (dateTimeDifference (dateTimeAt zs 0) (dateTimeAt zs 9) (unitOf (at zs 18)))
+meaningOf C.DateTimeFromInstant zs = values dateTimeValues (fromInstant (at zs 0) (at zs 1) (at zs 2))
 meaningOf C.Unknown zs = given []
 
 -- ---- the reply to a line

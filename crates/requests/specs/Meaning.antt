@@ -13,7 +13,7 @@ use Rattle.options.specs.declared.Unit.the-variants as U
 use Rattle.rounding.specs.declared.RoundingMode.{RoundingMode}
 use Rattle.rounding.specs.declared.RoundingMode.the-variants as M
 use Rattle.requests.specs.Protocol.{Kind, Reply, question, answer, Arguments, these, noArguments, also}
-use Rattle.requests.specs.Calls.{dateValues, timeValues, durationValues}
+use Rattle.requests.specs.Calls.{dateValues, timeValues, dateTimeValues, durationValues}
 use Rattle.requests.specs.declared.written.Written.{Written}
 use Rattle.requests.specs.declared.read.Int.{Int}
 use Rattle.requests.specs.declared.read.Int.the-variants as I
@@ -37,6 +37,8 @@ use Rattle.requests.specs.declared.read.DurationFields.the-variants as E
 use Rattle.requests.specs.declared.read.Choice.{Choice}
 use Rattle.requests.specs.declared.read.ChoiceFields.{ChoiceFields}
 use Rattle.requests.specs.declared.read.ChoiceFields.the-variants as H
+use Rattle.requests.specs.declared.read.DateTimeFields.{DateTimeFields}
+use Rattle.requests.specs.declared.read.DateTimeFields.the-variants as R
 use Rattle.requests.specs.declared.read.PartsFields.{PartsFields}
 use Rattle.requests.specs.declared.read.PartsFields.the-variants as P
 
@@ -131,3 +133,7 @@ choiceValues c = pos (cond (c .given) 1 0) ∷ c .number ∷ []
 abbrev pub ofChoiceFields : ChoiceFields → Arguments
 ofChoiceFields (H.Are c) = these (choiceValues c)
 ofChoiceFields H.Not = noArguments
+
+abbrev pub ofDateTimeFields : DateTimeFields → Arguments
+ofDateTimeFields (R.Are r) = these (dateTimeValues r)
+ofDateTimeFields R.Not = noArguments

@@ -1,4 +1,5 @@
 // The requests of the line protocol and their answers: a line in, the line that answers it out.
+mod date_times;
 mod dates;
 mod durations;
 pub mod inner;
@@ -13,6 +14,7 @@ pub use read::Byte;
 pub use read::Choice;
 pub use read::ChoiceFields;
 pub use read::DateFields;
+pub use read::DateTimeFields;
 pub use read::DurationFields;
 pub use read::Int;
 pub use read::ModeField;
@@ -53,6 +55,11 @@ pub fn reply_to(line: &[u8]) -> Written
         Call::DurationAdjust => durations::duration_adjust(line),
         Call::DateSum => sums::date_sum(line),
         Call::DateDifference => sums::date_difference(line),
+        Call::DateTimeLimits => date_times::datetime_limits(line),
+        Call::BalanceDateTime => date_times::balance_datetime(line),
+        Call::RoundDateTime => date_times::round_datetime(line),
+        Call::DateTimeDifference => date_times::datetime_difference(line),
+        Call::DateTimeFromInstant => date_times::datetime_from_instant(line),
         Call::Unknown => written::no_request(),
     }
 }

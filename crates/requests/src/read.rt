@@ -1,6 +1,7 @@
 // Fields read as numbers of the parameters' types, alone and in groups.
 use date_duration::DateDuration;
 use iso_date::IsoDate;
+use iso_date_time::IsoDateTime;
 use iso_time::IsoTime;
 use lines::Natural;
 use lines::Signed;
@@ -92,6 +93,12 @@ pub struct Choice {
 
 pub enum ChoiceFields {
     Are(Choice),
+    Not,
+}
+
+// Nine fields as a date and a time, or no such numbers.
+pub enum DateTimeFields {
+    Are(IsoDateTime),
     Not,
 }
 

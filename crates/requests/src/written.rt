@@ -8,6 +8,10 @@ use iso_date::DayResult;
 use iso_date::LimitResult;
 use iso_date::MonthLength;
 use iso_date::YearMonth;
+use iso_date_time::DateTimeResult;
+use iso_date_time::DifferenceResult;
+use iso_date_time::InternalDurationRecord;
+use iso_date_time::IsoDateTime;
 use iso_time::BalanceResult;
 use iso_time::BalancedTime;
 use iso_time::IsoTime;
@@ -18,10 +22,11 @@ ghost use mathlib.Core.List.{[], _∷_};
 ghost use lib.IntN.{pos};
 ghost use Rattle.iso_date.specs.Paper.{ofMonthLength, ofDay, ofDate, ofLimit};
 ghost use Rattle.date_duration.specs.Paper.{ofDuration, ofSign};
+ghost use Rattle.iso_date_time.specs.Paper.{ofDateTime, ofDifference};
 ghost use Rattle.iso_time.specs.Paper.{ofTime, ofBalance, ofSpan};
 ghost use Rattle.rounding.specs.Paper.{ofRounded};
 ghost use Rattle.requests.specs.Protocol.{question, answer, said};
-ghost use Rattle.requests.specs.Calls.{values, dateValues, yearMonthValues, timeValues, balancedValues, spanValues, durationValues, signNumber};
+ghost use Rattle.requests.specs.Calls.{values, dateValues, yearMonthValues, timeValues, balancedValues, spanValues, durationValues, signNumber, dateTimeValues, recordValues};
 ghost use Rattle.requests.specs.Meaning.{Says};
 
 // A reply: an answer's number and the first `count` of the values, or no request at all.
@@ -258,5 +263,75 @@ pub fn sign_reply(r: SignResult) -> Written
     match r {
         SignResult::Sign(s) => sign_value(s),
         SignResult::Refused(n) => number_alone(n),
+    }
+}
+
+fn date_time_values(r: IsoDateTime) -> Written
+    ensures { λ w. ⌜ Says w (answer 0 (dateTimeValues r)) ⌝ }
+{
+    let d = r.date;
+    let t = r.time;
+    Written {
+        known: true,
+        number: 0,
+        count: 9,
+        values: [
+            d.year as i64,
+            d.month as i64,
+            d.day as i64,
+            t.hour as i64,
+            t.minute as i64,
+            t.second as i64,
+            t.millisecond as i64,
+            t.microsecond as i64,
+            t.nanosecond as i64,
+            0,
+            0,
+            0,
+        ],
+    }
+}
+
+pub fn date_time_reply(r: DateTimeResult) -> Written
+    ensures { λ w. ⌜ Says w (said (values dateTimeValues (ofDateTime r))) ⌝ }
+{
+    match r {
+        DateTimeResult::DateTime(d) => date_time_values(d),
+        DateTimeResult::Refused(n) => number_alone(n),
+    }
+}
+
+fn record_values(r: InternalDurationRecord) -> Written
+    ensures { λ w. ⌜ Says w (answer 0 (recordValues r)) ⌝ }
+{
+    let d = r.date;
+    let t = r.time;
+    Written {
+        known: true,
+        number: 0,
+        count: 6,
+        values: [
+            d.years,
+            d.months,
+            d.weeks,
+            d.days,
+            t.seconds,
+            t.nanoseconds,
+            0,
+            0,
+            0,
+            0,
+            0,
+            0,
+        ],
+    }
+}
+
+pub fn record_reply(r: DifferenceResult) -> Written
+    ensures { λ w. ⌜ Says w (said (values recordValues (ofDifference r))) ⌝ }
+{
+    match r {
+        DifferenceResult::Difference(d) => record_values(d),
+        DifferenceResult::Refused(n) => number_alone(n),
     }
 }

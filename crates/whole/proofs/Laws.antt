@@ -311,6 +311,10 @@ pub range-of : (z : ℤ) → (mag z ≡ up z + (dn z - 1)) × (min (up z) (dn z)
 range-of (pos n) = omega arith
 range-of (negsuc n) = omega arith
 
+pub size-of : (z : ℤ) → natAbs z ≡ up z + dn z
+size-of (pos n) = omega arith
+size-of (negsuc n) = omega arith
+
 pub bits-eq : (w : Width) (x y : ℤ) → SFits w x → SFits w y → ofZ w x ≡ ofZ w y → x ≡ y
 bits-eq w x y f g e = sym (toZ-ofZ f) ∙ ap (toZ w) e ∙ toZ-ofZ g
 

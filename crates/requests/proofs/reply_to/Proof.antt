@@ -1,7 +1,7 @@
 -- The first field names the call; its reply is that of the call.
 use borrow.Author.Needs.{needs}
 use mathlib.Core.Path.{_∙_}
-use Rattle.calls.specs.declared.Call.the-variants.{MonthLength, DateToDay, DayToDate, BalanceYearMonth, RegulateDate, MakeDate, DateLimits, BalanceDate, RegulateTime, BalanceTime, TimeDifference, RoundNumber, RoundNumberAsIfPositive, RoundTime, DurationNew, DurationSign, DurationAbs, DurationNegated, DurationAdjust, DateSum, DateDifference, Unknown}
+use Rattle.calls.specs.declared.Call.the-variants.{MonthLength, DateToDay, DayToDate, BalanceYearMonth, RegulateDate, MakeDate, DateLimits, BalanceDate, RegulateTime, BalanceTime, TimeDifference, RoundNumber, RoundNumberAsIfPositive, RoundTime, DurationNew, DurationSign, DurationAbs, DurationNegated, DurationAdjust, DateSum, DateDifference, DateTimeLimits, BalanceDateTime, RoundDateTime, DateTimeDifference, DateTimeFromInstant, Unknown}
 use Rattle.requests.proofs.Laws.{says-as, reply-as, unknown-reply}
 use Rattle.requests.proofs.reply_to.Statement.{statement}
 use Rattle.requests.proofs.reply_to.Tie as tie
@@ -141,6 +141,36 @@ date-difference-requires c κs = search needs
 enum-told-22 : tie.Need-enum-told-22
 enum-told-22 c = search needs
 
+datetime-limits-requires : tie.Need-datetime-limits-requires
+datetime-limits-requires c κs = search needs
+
+enum-told-23 : tie.Need-enum-told-23
+enum-told-23 c = search needs
+
+balance-datetime-requires : tie.Need-balance-datetime-requires
+balance-datetime-requires c κs = search needs
+
+enum-told-24 : tie.Need-enum-told-24
+enum-told-24 c = search needs
+
+round-datetime-requires : tie.Need-round-datetime-requires
+round-datetime-requires c κs = search needs
+
+enum-told-25 : tie.Need-enum-told-25
+enum-told-25 c = search needs
+
+datetime-difference-requires : tie.Need-datetime-difference-requires
+datetime-difference-requires c κs = search needs
+
+enum-told-26 : tie.Need-enum-told-26
+enum-told-26 c = search needs
+
+datetime-from-instant-requires : tie.Need-datetime-from-instant-requires
+datetime-from-instant-requires c κs = search needs
+
+enum-told-27 : tie.Need-enum-told-27
+enum-told-27 c = search needs
+
 no-request-requires : tie.Need-no-request-requires
 no-request-requires c κs = search needs
 
@@ -252,8 +282,33 @@ returns-21 c =
 returns-22 : tie.Need-returns-22
 returns-22 c =
     let t = c .before .before .before in
+    says-as (c .datetime-limits .ensures) (reply-as DateTimeLimits _ _ _ (t .call-named .ensures) (t .before .field .ensures) (c .before .enum-told22 .given .1))
+
+returns-23 : tie.Need-returns-23
+returns-23 c =
+    let t = c .before .before .before in
+    says-as (c .balance-datetime .ensures) (reply-as BalanceDateTime _ _ _ (t .call-named .ensures) (t .before .field .ensures) (c .before .enum-told23 .given .1))
+
+returns-24 : tie.Need-returns-24
+returns-24 c =
+    let t = c .before .before .before in
+    says-as (c .round-datetime .ensures) (reply-as RoundDateTime _ _ _ (t .call-named .ensures) (t .before .field .ensures) (c .before .enum-told24 .given .1))
+
+returns-25 : tie.Need-returns-25
+returns-25 c =
+    let t = c .before .before .before in
+    says-as (c .datetime-difference .ensures) (reply-as DateTimeDifference _ _ _ (t .call-named .ensures) (t .before .field .ensures) (c .before .enum-told25 .given .1))
+
+returns-26 : tie.Need-returns-26
+returns-26 c =
+    let t = c .before .before .before in
+    says-as (c .datetime-from-instant .ensures) (reply-as DateTimeFromInstant _ _ _ (t .call-named .ensures) (t .before .field .ensures) (c .before .enum-told26 .given .1))
+
+returns-27 : tie.Need-returns-27
+returns-27 c =
+    let t = c .before .before .before in
     says-as (c .no-request .ensures)
-    (unknown-reply _ ∙ reply-as Unknown _ _ _ (t .call-named .ensures) (t .before .field .ensures) (c .before .enum-told22 .given .1))
+    (unknown-reply _ ∙ reply-as Unknown _ _ _ (t .call-named .ensures) (t .before .field .ensures) (c .before .enum-told27 .given .1))
 
 pub reply-to-spec : {M : Type 1} → statement M
 reply-to-spec =
@@ -304,6 +359,16 @@ reply-to-spec =
     enum-told-21
     date-difference-requires
     enum-told-22
+    datetime-limits-requires
+    enum-told-23
+    balance-datetime-requires
+    enum-told-24
+    round-datetime-requires
+    enum-told-25
+    datetime-difference-requires
+    enum-told-26
+    datetime-from-instant-requires
+    enum-told-27
     no-request-requires
     returns
     returns-2
@@ -326,4 +391,9 @@ reply-to-spec =
     returns-19
     returns-20
     returns-21
-    returns-22)
+    returns-22
+    returns-23
+    returns-24
+    returns-25
+    returns-26
+    returns-27)

@@ -1,0 +1,165 @@
+-- The difference of two records by the turn of their days and times, and how its answers come out of the checks. Assumes nothing.
+use Prim.Native.Nat.{ℕ, _+_, _-_, _*_, _^_, _≤_, _<_, min, max}
+use native.Mathlib.Omega.{arith}
+use mathlib.Core.Path.{_≡_, sym, _∙_, ap, ap₂}
+use mathlib.Core.Bool.{Bool, true, false, cond, _&&_}
+use borrow.Author.Tests.{leb-true, le-leb, lt-leb}
+use lib.Dec.{leb}
+use lib.IntN.{ℤ, pos, negℤ, _+ℤ_, _-ℤ_, _*ℤ_}
+use lib.Signed.{ltZ, _≤ℤ_}
+use Rattle.refusal.specs.Answer.{Answer, given, refused, numberOf}
+use Rattle.whole.specs.Whole.{_⊖_}
+use Rattle.whole.proofs.Laws.{ints, read-add, read-neg, read-times, read-diff}
+use Rattle.whole.proofs.Tests.{both}
+use Rattle.iso_date.specs.Proposal.{epochDays, epochDaysToISODate, isValidISODate, momentWithinLimits, nsPerDay, nsLimit}
+use Rattle.iso_date.specs.Inner.{dayBias}
+use Rattle.iso_date.specs.declared.IsoDate.{IsoDate}
+use Rattle.iso_date.proofs.Dates.{back-valid, back-and-there}
+use Rattle.iso_time.specs.Proposal.{nanoseconds, inSeconds}
+use Rattle.iso_time.specs.declared.TimeDuration.{TimeDuration}
+use Rattle.iso_time.proofs.Times.{read-valid, below-day}
+use Rattle.date_duration.specs.Proposal.{duration}
+use Rattle.date_duration.specs.declared.DateDuration.{DateDuration}
+use Rattle.options.specs.declared.Unit.{Unit as AnyUnit}
+use Rattle.options.specs.Units.{unitRank}
+use Rattle.date_math.specs.Proposal.{directed, calendarDateUntil}
+use Rattle.date_math.specs.Inner.{apart}
+use Rattle.date_math.proofs.Places.{directed-times, directed-add}
+use Rattle.iso_date_time.specs.Proposal.{movedDays, timeLeft, differenceISODateTime}
+use Rattle.iso_date_time.specs.Paper.{dateTimeLimits, dateTimeDifference}
+use Rattle.iso_date_time.specs.Inner.{Turns}
+use Rattle.iso_date_time.specs.declared.IsoDateTime.{IsoDateTime}
+use Rattle.iso_date_time.specs.declared.InternalDurationRecord.{InternalDurationRecord}
+use Rattle.iso_date_time.proofs.Moments.{Fine}
+use Rattle.iso_date_time.proofs.Turns.{moved-days-is, day-difference}
+
+-- ---- the days of a record within the limits
+
+pub fine-day : (r : IsoDateTime) → Fine r → (negℤ (pos 100000001) ≤ℤ epochDays (r .date)) × (epochDays (r .date) ≤ℤ pos 100000000)
+unfolding momentWithinLimits
+fine-day r f = go (epochDays (r .date)) (nanoseconds (r .time)) (below-day (r .time) (read-valid (r .time) (f .time-valid))) (f .within)
+  where
+    go : (n : ℤ) (ns : ℕ) → ns < nsPerDay →
+        (ltZ (negℤ (pos nsLimit)) (pos nsPerDay *ℤ n +ℤ pos ns) && ltZ (pos nsPerDay *ℤ n +ℤ pos ns) (pos nsLimit)) ≡ true →
+        (negℤ (pos 100000001) ≤ℤ n) × (n ≤ℤ pos 100000000)
+    go n ns h e =
+        let b = both _ _ e in
+        let l : ltZ (negℤ (pos nsLimit)) (pos nsPerDay *ℤ n +ℤ pos ns) ≡ true = b .0 in
+        let m : ltZ (pos nsPerDay *ℤ n +ℤ pos ns) (pos nsLimit) ≡ true = b .1 in
+        let t = read-times nsPerDay n in
+        let s = read-add (pos nsPerDay *ℤ n) (pos ns) in
+        (omega (arith, ints), omega (arith, ints))
+
+-- ---- the turn between two records
+
+-- where the second date is moved to, and the time that is then left
+pub record Placed (one two : IsoDateTime) (p day : ℕ) (forward : Bool) (ns : ℕ) : Type 0 where
+  pub day-low : dayBias - 100000000 ≤ day
+  pub day-high : day ≤ dayBias + 100000002
+  pub near : apart p day < 2 ^ 40
+  pub moved-is : epochDays (two .date) +ℤ movedDays one two ≡ day ⊖ (dayBias + 1)
+  pub days-are : (day ⊖ (dayBias + 1)) -ℤ epochDays (one .date) ≡ directed forward (apart p day)
+  pub left-are : timeLeft one two ≡ directed forward ns
+
+raised : (z : ℤ) (r K : ℕ) → z ≡ r ⊖ (K + 1) → negℤ (pos 100000001) ≤ℤ z → z ≤ℤ pos 100000000 → (K ≤ r + 100000000) × (r ≤ K + 100000001)
+raised z r K e h k = let d = read-diff r (K + 1) in (omega (arith, ints), omega (arith, ints))
+
+on-the-way : (p q day : ℕ) (forward : Bool) → cond forward (leb p day && leb day q) (leb q day && leb day p) ≡ true →
+    (min p q ≤ day) × (day ≤ max p q)
+on-the-way p q day true e =
+    let b = both _ _ e in
+    let l = leb-true p day (b .0) in
+    let m = leb-true day q (b .1) in
+    (omega arith, omega arith)
+on-the-way p q day false e =
+    let b = both _ _ e in
+    let l = leb-true q day (b .0) in
+    let m = leb-true day p (b .1) in
+    (omega arith, omega arith)
+
+day-moved : (x m : ℤ) (q day K : ℕ) → x ≡ q ⊖ K → pos day ≡ pos q +ℤ m → x +ℤ m ≡ day ⊖ K
+day-moved x m q day K e f = omega (arith, ints, read-diff q K, read-diff day K, read-add x m, read-add (pos q) m)
+
+days-ahead : (x : ℤ) (p q day K : ℕ) (forward : Bool) → cond forward (leb p day && leb day q) (leb q day && leb day p) ≡ true →
+    x ≡ p ⊖ K → (day ⊖ K) -ℤ x ≡ directed forward (apart p day)
+days-ahead x p q day K true e f =
+    let l = leb-true p day (both (leb p day) (leb day q) e .0) in
+    omega (arith, ints, read-diff p K, read-diff day K, read-neg x, read-add (day ⊖ K) (negℤ x))
+days-ahead x p q day K false e f =
+    let l = leb-true day p (both (leb q day) (leb day p) e .1) in
+    omega (arith, ints, read-diff p K, read-diff day K, read-neg x, read-add (day ⊖ K) (negℤ x), read-neg (pos (apart p day)))
+
+module _ (one two : IsoDateTime) (one-fine : Fine one) (two-fine : Fine two) (p a q b day : ℕ) (forward : Bool) (ns : ℕ)
+    (from : epochDays (one .date) ≡ p ⊖ (dayBias + 1)) (to : epochDays (two .date) ≡ q ⊖ (dayBias + 1))
+    (start : a ≡ nanoseconds (one .time)) (end : b ≡ nanoseconds (two .time)) where
+  pub placed : Turns p a q b day forward ns → Placed one two p day forward ns
+  placed t =
+      let u : Turns p (nanoseconds (one .time)) q (nanoseconds (two .time)) day forward ns = rw (start, end) at t in
+      let m = moved-days-is one two p q (dayBias + 1) (one-fine .date-valid) (two-fine .date-valid) from to in
+      let x = fine-day one one-fine in
+      let y = fine-day two two-fine in
+      let r = raised (epochDays (one .date)) p dayBias from (x .0) (x .1) in
+      let s = raised (epochDays (two .date)) q dayBias to (y .0) (y .1) in
+      let w = on-the-way p q day forward (u .between) in
+      record {
+        day-low = omega arith;
+        day-high = omega arith;
+        near = omega arith;
+        moved-is = rw m (day-moved (epochDays (two .date)) _ q day (dayBias + 1) to (u .day-is));
+        days-are = days-ahead (epochDays (one .date)) p q day (dayBias + 1) forward (u .between) from;
+        left-are = rw m (sym (u .left-is));
+      }
+
+-- ---- the two ways of the difference
+
+abbrev both-parts : DateDuration → TimeDuration → InternalDurationRecord
+both-parts d t = record { date = d; time = t }
+
+-- days and nanoseconds of one direction, as nanoseconds
+together : (forward : Bool) (n ns : ℕ) → directed forward ns +ℤ pos nsPerDay *ℤ directed forward n ≡ directed forward (nsPerDay * n + ns)
+together forward n ns =
+    let e : ns + nsPerDay * n ≡ nsPerDay * n + ns = omega arith in
+    ap (λ (z : ℤ). directed forward ns +ℤ z) (directed-times forward nsPerDay n) ∙ directed-add forward ns (nsPerDay * n) ∙ ap (directed forward) e
+
+module _ (one two : IsoDateTime) (unit : AnyUnit) (p day : ℕ) (forward : Bool) (ns rank : ℕ) (t : Placed one two p day forward ns)
+    (is : rank ≡ unitRank unit) where
+  -- down to the day the dates are counted under the unit, and the time that is left stands beside them
+  pub dates-and-time : (d : DateDuration) (s : TimeDuration) → rank ≤ 3 →
+      d ≡ calendarDateUntil (one .date) (epochDaysToISODate (day ⊖ (dayBias + 1))) unit → s ≡ inSeconds (directed forward (nsPerDay * 0 + ns)) →
+      both-parts d s ≡ differenceISODateTime one two unit
+  unfolding differenceISODateTime
+  dates-and-time d s h e f =
+      let z : nsPerDay * 0 + ns ≡ ns = omega arith in
+      rw (le-leb (unitRank unit) 3 (omega arith), lt-leb 4 (unitRank unit) (omega arith), t .moved-is, t .left-are)
+      (ap₂ both-parts e (rw z at f))
+
+  -- below the day the days join the time
+  pub time-alone : isValidISODate (one .date) ≡ true → (n : ℕ) (s : TimeDuration) → 3 < rank → n ≡ apart p day →
+      s ≡ inSeconds (directed forward (nsPerDay * n + ns)) →
+      both-parts (duration (pos 0) (pos 0) (pos 0) (pos 0)) s ≡ differenceISODateTime one two unit
+  unfolding differenceISODateTime
+  time-alone v n s h g e =
+      let to : IsoDate = epochDaysToISODate (day ⊖ (dayBias + 1)) in
+      let days : epochDays to -ℤ epochDays (one .date) ≡ directed forward n =
+      rw (back-and-there (day ⊖ (dayBias + 1)), g) (t .days-are) in
+      let dates = day-difference (one .date) to v (back-valid (day ⊖ (dayBias + 1))) in
+      rw (lt-leb (unitRank unit) 3 (omega arith), le-leb 4 (unitRank unit) (omega arith), t .moved-is, t .left-are, dates, days, together forward n ns)
+      (ap (both-parts (duration (pos 0) (pos 0) (pos 0) (pos 0))) e)
+
+-- ---- one law for each way through the checks
+
+module _ (one two : IsoDateTime) (unit : AnyUnit) where
+  pub first-refused : (checked : Answer (Unit {0})) (n r : ℕ) → checked ≡ refused n → r ≡ numberOf checked → checked ≡ dateTimeLimits one →
+      refused r ≡ dateTimeDifference one two unit
+  unfolding dateTimeDifference
+  first-refused checked n r e f g = rw (f, ← g, e)
+
+  pub second-refused : (checked : Answer (Unit {0})) (n r : ℕ) → given tt ≡ dateTimeLimits one → checked ≡ refused n → r ≡ numberOf checked →
+      checked ≡ dateTimeLimits two → refused r ≡ dateTimeDifference one two unit
+  unfolding dateTimeDifference
+  second-refused checked n r h e f g = rw (f, ← h, ← g, e)
+
+  pub both-given : (r : InternalDurationRecord) → given tt ≡ dateTimeLimits one → given tt ≡ dateTimeLimits two → r ≡ differenceISODateTime one two unit →
+      given r ≡ dateTimeDifference one two unit
+  unfolding dateTimeDifference
+  both-given r e f g = rw (← e, ← f, g)

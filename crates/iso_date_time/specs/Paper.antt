@@ -1,0 +1,71 @@
+-- What the calls on dates with a time answer, for every input: the checks in their order with their numbers, then the steps. A record
+-- outside its limits is 3, also where its date alone lies outside the date limits.
+use Prim.Native.Nat.{ℕ}
+use mathlib.Core.Bool.{Bool, _&&_}
+use lib.Dec.{ltb}
+use lib.IntN.{ℤ, pos, negℤ, natAbs, _+ℤ_, _*ℤ_}
+use lib.Signed.{leZ, ltZ}
+use Rattle.refusal.specs.Answer.{Answer, given, refused, check, andThen}
+use Rattle.iso_date.specs.Proposal.{epochDays, isValidISODate, nsPerDay}
+use Rattle.iso_date.specs.Paper.{balanceDate, dayToDate}
+use Rattle.iso_time.specs.Proposal.{isValidTime}
+use Rattle.iso_time.specs.Paper.{balanceTimeFields, roundedTime}
+use Rattle.rounding.specs.declared.RoundingMode.{RoundingMode}
+use Rattle.options.specs.declared.Unit.{Unit as AnyUnit}
+use Rattle.iso_date_time.specs.Proposal.{dateTime, isoDateTimeWithinLimits, differenceISODateTime, getISOPartsFromEpoch, withOffset}
+use Rattle.iso_date_time.specs.declared.IsoDateTime.{IsoDateTime}
+use Rattle.iso_date_time.specs.declared.InternalDurationRecord.{InternalDurationRecord}
+use Rattle.iso_date_time.specs.declared.DateTimeResult.{DateTimeResult}
+use Rattle.iso_date_time.specs.declared.DateTimeResult.the-variants as R
+use Rattle.iso_date_time.specs.declared.DifferenceResult.{DifferenceResult}
+use Rattle.iso_date_time.specs.declared.DifferenceResult.the-variants as D
+
+-- ---- each enum's cases as number and values
+
+abbrev pub ofDateTime : DateTimeResult → Answer IsoDateTime
+ofDateTime (R.DateTime r) = given r
+ofDateTime (R.Refused n) = refused n
+
+abbrev pub ofDifference : DifferenceResult → Answer InternalDurationRecord
+ofDifference (D.Difference d) = given d
+ofDifference (D.Refused n) = refused n
+
+-- ---- module 8
+
+-- a record: the fields of its date, those of its time, its limits
+unfoldable pub dateTimeLimits : IsoDateTime → Answer (Unit {0})
+dateTimeLimits r =
+    check (isValidISODate (r .date)) 1 (check (isValidTime (r .time)) 1 (check (isoDateTimeWithinLimits r) 3 (given tt)))
+
+-- the bound of the fields (7), then the exact sum of day, count and carry (4); the limits are not tested
+unfoldable pub balanceDateTime : ℤ → ℤ → ℤ → ℤ → ℤ → ℤ → ℤ → ℤ → ℤ → Answer IsoDateTime
+balanceDateTime year month day hour minute second millisecond microsecond nanosecond =
+    andThen (balanceTimeFields hour minute second millisecond microsecond nanosecond) (λ b.
+    andThen (balanceDate year month (day +ℤ b .days)) (λ d.
+    given (dateTime d (b .time))))
+
+-- the record, the unit (5), the increment (6); then the days of the rounded time join the date, and the limits (3) end it
+unfoldable pub roundDateTime : IsoDateTime → AnyUnit → ℕ → RoundingMode → Answer IsoDateTime
+roundDateTime r unit inc mode =
+    andThen (dateTimeLimits r) (λ _.
+    andThen (roundedTime (r .time) unit inc mode) (λ b.
+    andThen (dayToDate (epochDays (r .date) +ℤ b .days)) (λ d.
+    check (isoDateTimeWithinLimits (dateTime d (b .time))) 3 (given (dateTime d (b .time))))))
+
+-- every unit is usable
+unfoldable pub dateTimeDifference : IsoDateTime → IsoDateTime → AnyUnit → Answer InternalDurationRecord
+dateTimeDifference one two unit =
+    andThen (dateTimeLimits one) (λ _. andThen (dateTimeLimits two) (λ _. given (differenceISODateTime one two unit)))
+
+-- an instant: a day and a nanosecond of the day, at most 10^8 days from the epoch
+unfoldable pub isInstant : ℤ → ℤ → Bool
+isInstant day ns =
+    (leZ (pos 0) ns && ltZ ns (pos nsPerDay)) &&
+    (leZ (negℤ (pos 100_000_000)) day && leZ (pos nsPerDay *ℤ day +ℤ ns) (pos nsPerDay *ℤ pos 100_000_000))
+
+-- an offset is below one day in size
+unfoldable pub isOffset : ℤ → Bool
+isOffset offset = ltb (natAbs offset) nsPerDay
+
+unfoldable pub fromInstant : ℤ → ℤ → ℤ → Answer IsoDateTime
+fromInstant day ns offset = check (isInstant day ns && isOffset offset) 7 (given (withOffset (getISOPartsFromEpoch day (natAbs ns)) offset))

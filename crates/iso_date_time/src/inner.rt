@@ -1,0 +1,223 @@
+// Moments as a day and a nanosecond of the day, both naturals.
+use crate::DateTimeResult;
+use crate::InternalDurationRecord;
+use crate::IsoDateTime;
+use date_duration::DateDuration;
+use date_math::inner::distance;
+use date_math::inner::signed;
+use iso_date::IsoDate;
+use iso_date::inner::DAY_BIAS;
+use iso_date::inner::day_up;
+use iso_time::BalanceResult;
+use iso_time::IsoTime;
+use iso_time::TimeDuration;
+use iso_time::inner::nanoseconds_of;
+use options::Unit;
+ghost use mathlib.Core.Path.{_≡_};
+ghost use mathlib.Core.Bool.{true, _&&_};
+ghost use Prim.Native.Nat.{_+_, _-_, _*_, _/_, _%_, _^_, _<_, _≤_};
+ghost use lib.IntN.{pos, natAbs, _+ℤ_, _-ℤ_, _*ℤ_};
+ghost use Rattle.refusal.specs.Answer.{numberOf, check, given};
+ghost use Rattle.whole.specs.Whole.{_⊖_};
+ghost use Rattle.iso_date.specs.Proposal.{isValidISODate, epochDays, epochDaysToISODate};
+ghost use Rattle.iso_date.specs.Inner.{dayBias};
+ghost use Rattle.iso_time.specs.Proposal.{isValidTime, nanoseconds, inSeconds};
+ghost use Rattle.iso_time.specs.Paper.{ofBalance};
+ghost use Rattle.iso_time.specs.Inner.{nsPerDay};
+ghost use Rattle.date_math.specs.Proposal.{directed, calendarDateUntil};
+ghost use Rattle.iso_date_time.specs.Proposal.{dateTime, isoDateTimeWithinLimits, differenceISODateTime, getISOPartsFromEpoch, withOffset};
+ghost use Rattle.iso_date_time.specs.Paper.{ofDateTime, dateTimeLimits, isInstant, isOffset};
+ghost use Rattle.iso_date_time.specs.Inner.{Turns};
+
+const NS_PER_DAY: u64 = 86_400_000_000_000;
+
+const NS_PER_SECOND: u64 = 1_000_000_000;
+
+const SECONDS_PER_DAY: u64 = 86_400;
+
+// Whether a moment lies strictly between the limits: on the first day of all, midnight does not.
+pub fn within_limits(date: IsoDate, time: IsoTime) -> bool
+    requires { ⌜ (isValidISODate date ≡ true) × (isValidTime time ≡ true) ⌝ }
+    ensures { λ r. ⌜ r ≡ isoDateTimeWithinLimits (dateTime date time) ⌝ }
+{
+    let day = iso_date::inner::epoch_days(date);
+    if day < -100_000_001 {
+        return false;
+    }
+    if day > 100_000_000 {
+        return false;
+    }
+    let ns = nanoseconds_of(time);
+    if day < -100_000_000 {
+        return ns > 0;
+    }
+    true
+}
+
+// The number that a rounding refuses with, 0 where it does not.
+pub fn not_rounded(rounded: BalanceResult) -> u8
+    ensures { λ r. ⌜ r ≡ numberOf (ofBalance rounded) ⌝ }
+{
+    match rounded {
+        BalanceResult::Balanced(b) => 0,
+        BalanceResult::Refused(n) => n,
+    }
+}
+
+// A record held to the limits (3).
+pub fn limited(date: IsoDate, time: IsoTime) -> DateTimeResult
+    requires { ⌜ (isValidISODate date ≡ true) × (isValidTime time ≡ true) ⌝ }
+    ensures { λ r. ⌜ ofDateTime r ≡ check (isoDateTimeWithinLimits (dateTime date time)) 3 (given (dateTime date time)) ⌝ }
+{
+    if within_limits(date, time) {
+        return DateTimeResult::DateTime(IsoDateTime { date, time });
+    }
+    DateTimeResult::Refused(refusal::DATETIME_LIMITS)
+}
+
+// Where the second date is moved to, and the time that is then left: whether it goes forward, and its size.
+pub struct Turn {
+    pub day: u64,
+    pub forward: bool,
+    pub nanoseconds: u64,
+}
+
+// From day p at nanosecond a to day q at nanosecond b. Where date and time pull opposite ways, a day moves between them.
+fn turned(p: u64, a: u64, q: u64, b: u64) -> Turn
+    requires { ⌜ ((a < nsPerDay) × (b < nsPerDay)) × ((p < 2 ^ 51) × (q < 2 ^ 51)) ⌝ }
+    ensures { λ r. ⌜ Turns p a q b (r .day) (r .forward) (r .nanoseconds) ⌝ }
+{
+    if p < q {
+        if b < a {
+            return Turn {
+                day: q - 1,
+                forward: true,
+                nanoseconds: b + NS_PER_DAY - a,
+            };
+        }
+        return Turn {
+            day: q,
+            forward: true,
+            nanoseconds: b - a,
+        };
+    }
+    if q < p {
+        if a < b {
+            return Turn {
+                day: q + 1,
+                forward: false,
+                nanoseconds: a + NS_PER_DAY - b,
+            };
+        }
+        return Turn {
+            day: q,
+            forward: false,
+            nanoseconds: a - b,
+        };
+    }
+    Turn {
+        day: q,
+        forward: a <= b,
+        nanoseconds: distance(a, b),
+    }
+}
+
+// Days and nanoseconds of one direction, as whole seconds and nanoseconds.
+fn in_seconds(forward: bool, days: u64, nanoseconds: u64) -> TimeDuration
+    requires { ⌜ (days < 2 ^ 40) × (nanoseconds < nsPerDay) ⌝ }
+    ensures { λ r. ⌜ r ≡ inSeconds (directed forward (nsPerDay * days + nanoseconds)) ⌝ }
+{
+    TimeDuration {
+        seconds: signed(
+            forward,
+            SECONDS_PER_DAY * days + nanoseconds / NS_PER_SECOND,
+        ),
+        nanoseconds: signed(forward, nanoseconds % NS_PER_SECOND),
+    }
+}
+
+// The difference of two dates, the second by its day number.
+fn dates_until(one: IsoDate, day: u64, unit: Unit) -> DateDuration
+    requires { ⌜ (isValidISODate one ≡ true) × ((dayBias - 100000000 ≤ day) × (day ≤ dayBias + 100000002)) ⌝ }
+    ensures { λ r. ⌜ r ≡ calendarDateUntil one (epochDaysToISODate (day ⊖ (dayBias + 1))) unit ⌝ }
+{
+    date_math::inner::difference(one, iso_date::inner::civil(day - 1), unit)
+}
+
+// The difference of two records within the limits.
+pub fn difference(one: IsoDateTime, two: IsoDateTime, unit: Unit) -> InternalDurationRecord
+    requires { ⌜ (dateTimeLimits one ≡ given tt) × (dateTimeLimits two ≡ given tt) ⌝ }
+    ensures { λ r. ⌜ r ≡ differenceISODateTime one two unit ⌝ }
+{
+    let first = one.date;
+    let start = one.time;
+    let second = two.date;
+    let end = two.time;
+    let p = day_up(first);
+    let t = turned(
+        p,
+        nanoseconds_of(start),
+        day_up(second),
+        nanoseconds_of(end),
+    );
+    if unit.rank() > 3 {
+        return InternalDurationRecord {
+            date: DateDuration {
+                years: 0,
+                months: 0,
+                weeks: 0,
+                days: 0,
+            },
+            time: in_seconds(t.forward, distance(p, t.day), t.nanoseconds),
+        };
+    }
+    InternalDurationRecord {
+        date: dates_until(first, t.day, unit),
+        time: in_seconds(t.forward, 0, t.nanoseconds),
+    }
+}
+
+// Whether a day and a nanosecond of the day are an instant: at most 10^8 days from the epoch.
+pub fn is_instant(day: i64, nanosecond: i64) -> bool
+    ensures { λ r. ⌜ r ≡ isInstant day nanosecond ⌝ }
+{
+    if nanosecond < 0 {
+        return false;
+    }
+    if nanosecond >= 86_400_000_000_000 {
+        return false;
+    }
+    if day < -100_000_000 {
+        return false;
+    }
+    if day < 100_000_000 {
+        return true;
+    }
+    if day > 100_000_000 {
+        return false;
+    }
+    nanosecond <= 0
+}
+
+// Whether an offset is below one day in size.
+pub fn is_offset(offset: i64) -> bool
+    ensures { λ r. ⌜ r ≡ isOffset offset ⌝ }
+{
+    if offset <= -86_400_000_000_000 {
+        return false;
+    }
+    offset < 86_400_000_000_000
+}
+
+// The record of an instant at an offset. Day and nanosecond are raised by a day, so that the sum with the offset is a natural.
+pub fn from_instant(day: i64, nanosecond: i64, offset: i64) -> IsoDateTime
+    requires { ⌜ (isInstant day nanosecond ≡ true) × (isOffset offset ≡ true) ⌝ }
+    ensures { λ r. ⌜ r ≡ withOffset (getISOPartsFromEpoch day (natAbs nanosecond)) offset ⌝ }
+{
+    let n = whole::inner::above(nanosecond) + whole::inner::raise(offset, NS_PER_DAY);
+    let d = whole::inner::raise(day, DAY_BIAS) + n / NS_PER_DAY - 1;
+    IsoDateTime {
+        date: iso_date::inner::civil(d),
+        time: iso_time::inner::time_at(n % NS_PER_DAY),
+    }
+}
