@@ -1,6 +1,7 @@
 pub mod Differences
-pub mod Theorems
 pub mod Instants
-pub mod Turns
 pub mod Moments
+pub mod Pinned
 pub mod Roundings
+pub mod Theorems
+pub mod Turns

@@ -1,4 +1,5 @@
 pub mod Checks
+pub mod Pinned
 pub mod Rounding
 pub mod Theorems
 pub mod Times

@@ -1,0 +1,32 @@
+-- Two results of a call that its contract allows are one: an answer tells the case of the enum and what it carries. Assumes nothing.
+use mathlib.Core.Path.{_≡_, refl, sym, _∙_, ap}
+use Rattle.refusal.specs.Answer.{Answer, given, refused}
+use Rattle.date_duration.specs.Paper.{ofDuration, ofSign}
+use Rattle.date_duration.specs.declared.DateDuration.{DateDuration}
+use Rattle.date_duration.specs.declared.Sign.{Sign}
+use Rattle.date_duration.specs.declared.DurationResult.{DurationResult}
+use Rattle.date_duration.specs.declared.DurationResult.the-variants as V0
+use Rattle.date_duration.specs.declared.SignResult.{SignResult}
+use Rattle.date_duration.specs.declared.SignResult.the-variants as V1
+
+abbrev to-duration : Answer DateDuration → DurationResult
+to-duration (given x) = V0.Duration x
+to-duration (refused n) = V0.Refused n
+
+duration-back : (r : DurationResult) → to-duration (ofDuration r) ≡ r
+duration-back (V0.Duration x) = refl
+duration-back (V0.Refused n) = refl
+
+pub one-duration : (a : Answer DateDuration) (r s : DurationResult) → ofDuration r ≡ a → ofDuration s ≡ a → r ≡ s
+one-duration a r s e f = sym (duration-back r) ∙ ap to-duration (e ∙ sym f) ∙ duration-back s
+
+abbrev to-sign : Answer Sign → SignResult
+to-sign (given x) = V1.Sign x
+to-sign (refused n) = V1.Refused n
+
+sign-back : (r : SignResult) → to-sign (ofSign r) ≡ r
+sign-back (V1.Sign x) = refl
+sign-back (V1.Refused n) = refl
+
+pub one-sign : (a : Answer Sign) (r s : SignResult) → ofSign r ≡ a → ofSign s ≡ a → r ≡ s
+one-sign a r s e f = sym (sign-back r) ∙ ap to-sign (e ∙ sym f) ∙ sign-back s

@@ -1,0 +1,32 @@
+-- Two results of a call that its contract allows are one: an answer tells the case of the enum and what it carries. Assumes nothing.
+use mathlib.Core.Path.{_≡_, refl, sym, _∙_, ap}
+use Rattle.refusal.specs.Answer.{Answer, given, refused}
+use Rattle.iso_date_time.specs.Paper.{ofDateTime, ofDifference}
+use Rattle.iso_date_time.specs.declared.IsoDateTime.{IsoDateTime}
+use Rattle.iso_date_time.specs.declared.InternalDurationRecord.{InternalDurationRecord}
+use Rattle.iso_date_time.specs.declared.DateTimeResult.{DateTimeResult}
+use Rattle.iso_date_time.specs.declared.DateTimeResult.the-variants as V0
+use Rattle.iso_date_time.specs.declared.DifferenceResult.{DifferenceResult}
+use Rattle.iso_date_time.specs.declared.DifferenceResult.the-variants as V1
+
+abbrev to-record : Answer IsoDateTime → DateTimeResult
+to-record (given x) = V0.DateTime x
+to-record (refused n) = V0.Refused n
+
+record-back : (r : DateTimeResult) → to-record (ofDateTime r) ≡ r
+record-back (V0.DateTime x) = refl
+record-back (V0.Refused n) = refl
+
+pub one-record : (a : Answer IsoDateTime) (r s : DateTimeResult) → ofDateTime r ≡ a → ofDateTime s ≡ a → r ≡ s
+one-record a r s e f = sym (record-back r) ∙ ap to-record (e ∙ sym f) ∙ record-back s
+
+abbrev to-difference : Answer InternalDurationRecord → DifferenceResult
+to-difference (given x) = V1.Difference x
+to-difference (refused n) = V1.Refused n
+
+difference-back : (r : DifferenceResult) → to-difference (ofDifference r) ≡ r
+difference-back (V1.Difference x) = refl
+difference-back (V1.Refused n) = refl
+
+pub one-difference : (a : Answer InternalDurationRecord) (r s : DifferenceResult) → ofDifference r ≡ a → ofDifference s ≡ a → r ≡ s
+one-difference a r s e f = sym (difference-back r) ∙ ap to-difference (e ∙ sym f) ∙ difference-back s
