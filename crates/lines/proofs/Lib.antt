@@ -6,3 +6,4 @@ pub mod Digits
 pub mod Answers
 pub mod ReadBack
 pub mod Lengths
+pub mod Pinned

@@ -1,16 +1,16 @@
 -- Reading a number: what one digit more does to a value, which texts are a natural in its shortest form, and what `-` before one says.
 -- Assumes nothing.
-use Prim.Native.Nat.{ℕ, _+_, _-_, _*_, _^_, _≤_, _<_}
+use Prim.Native.Nat.{ℕ, suc, _+_, _-_, _*_, _^_, _≤_, _<_}
 use native.Mathlib.Nat.{le-refl}
 use native.Mathlib.Numerals.{add-one}
 use native.Mathlib.Omega.{arith}
-use mathlib.Core.Path.{_≡_, refl, _∙_}
+use mathlib.Core.Path.{_≡_, refl, ap, _∙_}
 use mathlib.Core.Logic.{⊎-elim}
 use mathlib.Core.Bool.{Bool, true, false, cond, _&&_}
 use mathlib.Core.List.{List, [], _∷_}
 use borrow.Author.Tests.{lt-ltb, le-ltb, le-leb, lt-leb, eq-eqb, ne-eqb}
 use lib.Dec.{ltb, leb}
-use lib.IntN.{pos, negℤ}
+use lib.IntN.{pos, negsuc, negℤ}
 use lib.ListN.{length, take, drop, getD, length-drop, drop-of-length-le}
 use lib.Seq.{drop-cons, take-all}
 use Rattle.whole.proofs.Laws.{split}
@@ -128,8 +128,11 @@ negative-zero bs n e z = minus-some (shortest bs) (valueFrom 0 bs) n e ∙ rw z
 pub negative-large : (bs : List ℕ) (n : ℕ) → naturalOf bs ≡ number (pos n) → 2 ^ 63 < n → negativeOf bs ≡ none
 negative-large bs n e h = let l : 0 < n = omega arith in minus-some (shortest bs) (valueFrom 0 bs) n e ∙ rw (lt-ltb 0 n l, lt-leb n (2 ^ 63) h)
 
-pub negative-some : (bs : List ℕ) (n : ℕ) → naturalOf bs ≡ number (pos n) → (n ≡ 0 → ⊥) → n ≤ 2 ^ 63 → negativeOf bs ≡ number (negℤ (pos n))
-negative-some bs n e z h = let l : 0 < n = omega arith in minus-some (shortest bs) (valueFrom 0 bs) n e ∙ rw (lt-ltb 0 n l, le-leb n (2 ^ 63) h)
+pub negative-some : (bs : List ℕ) (n : ℕ) → naturalOf bs ≡ number (pos n) → (n ≡ 0 → ⊥) → n ≤ 2 ^ 63 → negativeOf bs ≡ number (negsuc (n - 1))
+negative-some bs n e z h =
+    let l : 0 < n = omega arith in
+    let s : n ≡ suc (n - 1) = omega arith in
+    minus-some (shortest bs) (valueFrom 0 bs) n e ∙ rw (lt-ltb 0 n l, le-leb n (2 ^ 63) h) (ap (λ (k : ℕ). number (negℤ (pos k))) s)
 
 pub after-first : (s : List ℕ) → take (length s - 1) (drop 1 s) ≡ drop 1 s
 after-first s = let h : length (drop 1 s) ≤ length s - 1 = rw (length-drop 1 s) (omega arith) in take-all (length s - 1) (drop 1 s) h

@@ -78,5 +78,6 @@ read-back (pos n) low high =
     number-plain (digits 20 n) (omega (arith, some-digit 19 n)) (omega (arith, first 19 n (omega arith))) ∙ natural-back n h
 read-back (negsuc n) low high =
     let h : suc n ≤ 2 ^ 63 = omega (arith, ints) in
+    let e : suc n - 1 ≡ n = omega arith in
     number-minus (minusSign ∷ digits 20 (suc n)) (omega arith) refl ∙
-    negative-some (digits 20 (suc n)) (suc n) (natural-back (suc n) (omega arith)) (omega arith) h
+    negative-some (digits 20 (suc n)) (suc n) (natural-back (suc n) (omega arith)) (omega arith) h ∙ ap (λ (k : ℕ). number (negsuc k)) e

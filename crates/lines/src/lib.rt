@@ -2,17 +2,15 @@
 // Nothing of calendars.
 pub mod inner;
 
-use whole::inner::minus;
-use whole::inner::plus;
 ghost use mathlib.Core.Path.{_≡_};
 ghost use mathlib.Core.Bool.{cond, _&&_};
 ghost use mathlib.Core.List.{[]};
 ghost use Prim.Native.Nat.{_-_, _^_, _≤_};
 ghost use lib.Dec.{ltb};
-ghost use lib.IntN.{pos};
+ghost use lib.IntN.{pos, negℤ};
 ghost use lib.ListN.{length, take, drop, getD};
 ghost use Rattle.lines.specs.Text.{fields, allDigits, valueFrom, naturalOf, numberOf, within, number, none};
-ghost use Rattle.lines.specs.Meaning.{ofNumber, ofSigned, ofNatural};
+ghost use Rattle.lines.specs.Meaning.{ofNumber, ofNatural};
 
 // What stands between two fields.
 const SPACE: u8 = b' ';
@@ -20,21 +18,15 @@ const SPACE: u8 = b' ';
 // The size of the smallest i64, -2^63.
 const SMALLEST: u64 = 0x8000_0000_0000_0000;
 
-// A whole number: a natural, the size of a negative number, or no number.
+// A whole number, in one way only: a natural, how far a negative number lies below -1, or no number.
 pub enum Number {
     Plus(u64),
     Minus(u64),
     Not,
 }
 
-// A number between two bounds that a caller gave, or none.
-pub enum Signed {
-    Is(i64),
-    Not,
-}
-
-// A natural up to a bound that a caller gave, or none.
-pub enum Natural {
+// A natural, or none.
+enum Natural {
     Is(u64),
     Not,
 }
@@ -88,23 +80,15 @@ pub fn read_number(text: &[u8]) -> Number
     if SMALLEST < size {
         return Number::Not;
     }
-    Number::Minus(size)
+    Number::Minus(size - 1)
 }
 
-// The number that field i of the line is, where it lies from low to high.
+// The number that field i of the line is, where it lies from -below to high.
 // None, where it lies outside, and where the field is no number or the line has no such field.
-pub fn signed_at(line: &[u8], i: usize, low: i64, high: i64) -> Signed
-    ensures { λ r. ⌜ ofSigned r ≡ within low high (numberOf (getD (fields (now (line .entry))) i [])) ⌝ }
+pub fn number_at(line: &[u8], i: usize, below: u64, high: u64) -> Number
+    ensures { λ r. ⌜ ofNumber r ≡ within (negℤ (pos below)) (pos high) (numberOf (getD (fields (now (line .entry))) i [])) ⌝ }
 {
-    signed_within(read_number(field(line, i)), low, high)
-}
-
-// The natural that field i of the line is, where it is at most high.
-// None, where it is larger, and where the field is no natural or the line has no such field.
-pub fn natural_at(line: &[u8], i: usize, high: u64) -> Natural
-    ensures { λ r. ⌜ ofNatural r ≡ within (pos 0) (pos high) (numberOf (getD (fields (now (line .entry))) i [])) ⌝ }
-{
-    natural_within(read_number(field(line, i)), high)
+    number_within(read_number(field(line, i)), below, high)
 }
 
 // Where field i of the line starts; the line's end, where it has no such field.
@@ -179,60 +163,23 @@ fn digits_value(text: &[u8]) -> Natural
     Natural::Is(value)
 }
 
-// What was read, where it lies from low to high. A size that no i64 has lies outside whatever the bounds are.
-fn signed_within(x: Number, low: i64, high: i64) -> Signed
-    ensures { λ r. ⌜ ofSigned r ≡ within low high (ofNumber x) ⌝ }
-{
-    match x {
-        Number::Plus(n) => {
-            if SMALLEST <= n {
-                return Signed::Not;
-            }
-            bounded(plus(n), low, high)
-        }
-        Number::Minus(n) => {
-            if n == 0 {
-                return bounded(0, low, high);
-            }
-            if SMALLEST < n {
-                return Signed::Not;
-            }
-            bounded(minus(n - 1), low, high)
-        }
-        Number::Not => Signed::Not,
-    }
-}
-
-// What was read, where it is a natural and at most high.
-fn natural_within(x: Number, high: u64) -> Natural
-    ensures { λ r. ⌜ ofNatural r ≡ within (pos 0) (pos high) (ofNumber x) ⌝ }
+// What was read, where it lies from -below to high.
+fn number_within(x: Number, below: u64, high: u64) -> Number
+    ensures { λ r. ⌜ ofNumber r ≡ within (negℤ (pos below)) (pos high) (ofNumber x) ⌝ }
 {
     match x {
         Number::Plus(n) => {
             if high < n {
-                return Natural::Not;
+                return Number::Not;
             }
-            Natural::Is(n)
+            Number::Plus(n)
         }
         Number::Minus(n) => {
-            if n == 0 {
-                return Natural::Is(0);
+            if below <= n {
+                return Number::Not;
             }
-            Natural::Not
+            Number::Minus(n)
         }
-        Number::Not => Natural::Not,
+        Number::Not => Number::Not,
     }
-}
-
-// The number, where it lies from low to high.
-fn bounded(z: i64, low: i64, high: i64) -> Signed
-    ensures { λ r. ⌜ ofSigned r ≡ within low high (number z) ⌝ }
-{
-    if z < low {
-        return Signed::Not;
-    }
-    if high < z {
-        return Signed::Not;
-    }
-    Signed::Is(z)
 }

@@ -81,6 +81,9 @@ returns-6 c =
     let d = c .before .before .before .before .before in
     sym (signed d ∙ negative-large (drop 1 (text d)) _ (sym (rest d) ∙ ap ofNatural (c .before .before .before .size .given .1)) (omega arith))
 
+sub-t13 : tie.Need-sub-t13
+sub-t13 c = search needs
+
 returns-7 : tie.Need-returns-7
 returns-7 c =
     let d = c .before .before .before .before .before in
@@ -106,4 +109,5 @@ read-number-spec =
     returns-4
     returns-5
     returns-6
+    sub-t13
     returns-7)
