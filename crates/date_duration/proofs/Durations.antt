@@ -7,7 +7,7 @@ use borrow.Author.Tests.{leb-true, leb-false, lt-ltb, le-ltb, ltb-true, ne-eqb}
 use lib.Dec.{leb, ltb}
 use lib.IntN.{ℤ, pos, negsuc, negℤ, negℤ-negℤ, natAbs}
 use lib.Signed.{leZ, _≤ℤ_, _<ℤ_}
-use Rattle.whole.proofs.Laws.{ints}
+use Rattle.whole.proofs.Laws.{ints, size-neg}
 use Rattle.whole.proofs.Tests.{both}
 use Rattle.refusal.specs.Answer.{refused}
 use Rattle.date_duration.specs.Proposal.{keptOr, duration, anyBelow, anyAbove, small, smallDays, allSmall, isValidDuration, signOf, orElse}
@@ -26,25 +26,14 @@ same-test n k a b f g = go (leb n k) refl
     go true e = e ∙ sym (lt-ltb a b (f (leb-true n k e)))
     go false e = e ∙ sym (le-ltb a b (g (leb-false n k e)))
 
-pub too-small : (z : ℤ) → z <ℤ negℤ (pos 4294967295) → false ≡ small z
+-- the size that each part may have
+pub small-is : (z : ℤ) → leb (natAbs z) 4294967295 ≡ small z
 unfolding small
-too-small (pos n) h = let f : ⊥ = omega (arith, ints) in absurd f
-too-small (negsuc n) h = sym (le-ltb (suc n) (2 ^ 32) (omega (arith, ints)))
+small-is z = same-test (natAbs z) 4294967295 (natAbs z) (2 ^ 32) (λ l. omega arith) (λ l. omega arith)
 
-pub small-enough : (z : ℤ) → negℤ (pos 4294967295) ≤ℤ z → leZ z (pos 4294967295) ≡ small z
-unfolding small
-small-enough (pos n) h = same-test n 4294967295 n (2 ^ 32) (λ l. omega arith) (λ l. omega arith)
-small-enough (negsuc n) h = sym (lt-ltb (suc n) (2 ^ 32) (omega (arith, ints)))
-
-pub too-few : (z : ℤ) → z <ℤ negℤ (pos 104249991374) → false ≡ smallDays z
+pub small-days-is : (z : ℤ) → leb (natAbs z) 104249991374 ≡ smallDays z
 unfolding smallDays
-too-few (pos n) h = let f : ⊥ = omega (arith, ints) in absurd f
-too-few (negsuc n) h = sym (le-ltb (suc n * 86400) (2 ^ 53) (omega (arith, ints)))
-
-pub few-enough : (z : ℤ) → negℤ (pos 104249991374) ≤ℤ z → leZ z (pos 104249991374) ≡ smallDays z
-unfolding smallDays
-few-enough (pos n) h = same-test n 104249991374 (n * 86400) (2 ^ 53) (λ l. omega arith) (λ l. omega arith)
-few-enough (negsuc n) h = sym (lt-ltb (suc n * 86400) (2 ^ 53) (omega (arith, ints)))
+small-days-is z = same-test (natAbs z) 104249991374 (natAbs z * 86400) (2 ^ 53) (λ l. omega arith) (λ l. omega arith)
 
 -- the parts of a valid duration are small
 pub record Bounded (d : DateDuration) : Type 0 where
@@ -129,11 +118,7 @@ first-none z rest e = rw e
 -- of a number below zero with a size n
 module _ (z : ℤ) (n : ℕ) (e : z ≡ negℤ (pos n)) where
   size-is : natAbs z ≡ n
-  size-is = rw e (of-negative n)
-    where
-      of-negative : (k : ℕ) → natAbs (negℤ (pos k)) ≡ k
-      of-negative zero = refl
-      of-negative (suc k) = refl
+  size-is = rw e (size-neg n)
 
   pub size-small : natAbs z < 2 ^ 62 → n < 2 ^ 63
   size-small h = omega (arith, size-is)
