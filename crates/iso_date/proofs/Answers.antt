@@ -12,7 +12,7 @@ use Rattle.refusal.specs.Answer.{given, refused, check}
 use Rattle.refusal.proofs.Answers.{given-inj, never}
 use Rattle.whole.specs.Whole.{_⊖_, fmod, clampZ}
 use Rattle.whole.proofs.Laws.{whole, ints, ⊖-same, size-of, range-of, read-add, read-diff, read-times}
-use Rattle.whole.proofs.Tests.{and-false}
+use Rattle.whole.proofs.Tests.{both, and-false}
 use Rattle.iso_date.specs.Proposal.{date, leapYear, monthLengths, isoDaysInMonth, dayFromMonth, isoDateToEpochDays, epochDays, epochDaysToISODate, isValidISODate, balancedYear, constrainISODate, clampTo, momentWithinLimits, isoDateWithinLimits, noon, nsPerDay, nsLimit}
 use Rattle.iso_date.specs.Paper.{monthLength, balanced, yearMonth, balanceYearMonth, dateToDay, dayToDate, regulateDate, makeDate, dateLimits, balanceDate}
 use Rattle.iso_date.specs.Inner.{yearBias, monthBias, dayBias, Balances}
@@ -53,33 +53,44 @@ in-range n a b =
 
 -- ---- the limits of a moment, by its day and its nanosecond of the day
 
-module _ (n : ℤ) (ns : ℕ) (small : ns < nsPerDay) where
+module _ (n : ℤ) (ns : ℕ) where
   abbrev moment : ℤ
   moment = pos nsPerDay *ℤ n +ℤ pos ns
 
-  pub limits-low : n <ℤ negℤ (pos 100000001) → momentWithinLimits n ns ≡ false
+  pub limits-in : negℤ (pos nsLimit) <ℤ moment → moment <ℤ pos nsLimit → momentWithinLimits n ns ≡ true
   unfolding momentWithinLimits
-  limits-low h =
-      let t : ltZ (negℤ (pos nsLimit)) moment ≡ false = omega (arith, ints, read-times nsPerDay n, read-add (pos nsPerDay *ℤ n) (pos ns)) in
-      rw t
-
-  pub limits-high : pos 100000000 <ℤ n → momentWithinLimits n ns ≡ false
-  unfolding momentWithinLimits
-  limits-high h =
-      let t : ltZ moment (pos nsLimit) ≡ false = omega (arith, ints, read-times nsPerDay n, read-add (pos nsPerDay *ℤ n) (pos ns)) in
-      rw t (and-false (ltZ (negℤ (pos nsLimit)) moment))
-
-  -- on the first day of all, midnight lies outside
-  pub limits-in : negℤ (pos 100000001) ≤ℤ n → n ≤ℤ pos 100000000 → (negℤ (pos nsLimit)) <ℤ moment → momentWithinLimits n ns ≡ true
-  unfolding momentWithinLimits
-  limits-in a b c =
+  limits-in a b =
       let t : ltZ (negℤ (pos nsLimit)) moment ≡ true = omega (arith, ints) in
-      let s : ltZ moment (pos nsLimit) ≡ true = omega (arith, ints, read-times nsPerDay n, read-add (pos nsPerDay *ℤ n) (pos ns)) in
+      let s : ltZ moment (pos nsLimit) ≡ true = omega (arith, ints) in
       rw (t, s)
+
+  module _ (small : ns < nsPerDay) where
+    pub limits-low : n <ℤ negℤ (pos 100000001) → momentWithinLimits n ns ≡ false
+    unfolding momentWithinLimits
+    limits-low h =
+        let t : ltZ (negℤ (pos nsLimit)) moment ≡ false = omega (arith, ints, read-times nsPerDay n, read-add (pos nsPerDay *ℤ n) (pos ns)) in
+        rw t
+
+    pub limits-high : pos 100000000 <ℤ n → momentWithinLimits n ns ≡ false
+    unfolding momentWithinLimits
+    limits-high h =
+        let t : ltZ moment (pos nsLimit) ≡ false = omega (arith, ints, read-times nsPerDay n, read-add (pos nsPerDay *ℤ n) (pos ns)) in
+        rw t (and-false (ltZ (negℤ (pos nsLimit)) moment))
+
+    pub limits-days : momentWithinLimits n ns ≡ true → (negℤ (pos 100000001) ≤ℤ n) × (n ≤ℤ pos 100000000)
+    unfolding momentWithinLimits
+    limits-days e =
+        let b = both (ltZ (negℤ (pos nsLimit)) moment) (ltZ moment (pos nsLimit)) e in
+        let t = read-times nsPerDay n in
+        let s = read-add (pos nsPerDay *ℤ n) (pos ns) in
+        (omega (arith, ints, b .0), omega (arith, ints, b .1))
 
 -- the date limits are days -100,000,001 to 100,000,000, though noon is what the definition tests
 pub noon-in : (n : ℤ) → negℤ (pos 100000001) ≤ℤ n → n ≤ℤ pos 100000000 → momentWithinLimits n noon ≡ true
-noon-in n a b = limits-in n noon (omega arith) a b (omega (arith, ints, read-times nsPerDay n, read-add (pos nsPerDay *ℤ n) (pos noon)))
+noon-in n a b =
+    let t = read-times nsPerDay n in
+    let s = read-add (pos nsPerDay *ℤ n) (pos noon) in
+    limits-in n noon (omega (arith, ints)) (omega (arith, ints))
 
 -- ---- valid fields
 
