@@ -6,7 +6,10 @@ use mathlib.Core.Bool.{Bool, true, false, not, _&&_}
 use borrow.Author.Tests.{leb-true, leb-false, lt-ltb, le-ltb, ltb-true, ne-eqb}
 use lib.Dec.{leb, ltb}
 use lib.IntN.{ℤ, pos, negsuc, negℤ, negℤ-negℤ, natAbs}
-use lib.Signed.{leZ, _≤ℤ_, _<ℤ_}
+use lib.Signed.{_≤ℤ_, _<ℤ_}
+use mir.Facts.{toZ-ofZ}
+use mir.Syntax.{w64}
+use mir.Val.{SFits, toZ, ofZ}
 use Rattle.whole.proofs.Laws.{ints, size-neg}
 use Rattle.whole.proofs.Tests.{both}
 use Rattle.refusal.specs.Answer.{refused}
@@ -56,21 +59,24 @@ bounded d e =
       days-low = omega (arith, ltb-true (natAbs (d .days) * 86400) (2 ^ 53) (c .1));
     }
 
--- and can be turned
+-- and can be turned, each as a local hands it back
+part-small : (x : ℤ) (n : ℕ) → natAbs x < n → n ≤ 2 ^ 38 → SFits w64 x → natAbs (toZ w64 (ofZ w64 x)) < 2 ^ 62
+part-small x n h l f = rw (toZ-ofZ f) (omega arith)
+
 pub record Turnable (d : DateDuration) : Type 0 where
-  pub years-small : natAbs (d .years) < 2 ^ 62
-  pub months-small : natAbs (d .months) < 2 ^ 62
-  pub weeks-small : natAbs (d .weeks) < 2 ^ 62
-  pub days-small : natAbs (d .days) < 2 ^ 62
+  pub years-small : SFits w64 (d .years) → natAbs (toZ w64 (ofZ w64 (d .years))) < 2 ^ 62
+  pub months-small : SFits w64 (d .months) → natAbs (toZ w64 (ofZ w64 (d .months))) < 2 ^ 62
+  pub weeks-small : SFits w64 (d .weeks) → natAbs (toZ w64 (ofZ w64 (d .weeks))) < 2 ^ 62
+  pub days-small : SFits w64 (d .days) → natAbs (toZ w64 (ofZ w64 (d .days))) < 2 ^ 62
 
 pub turnable : (d : DateDuration) → isValidDuration d ≡ true → Turnable d
 turnable d e =
     let b = bounded d e in
     record {
-      years-small = omega (arith, b .years-low);
-      months-small = omega (arith, b .months-low);
-      weeks-small = omega (arith, b .weeks-low);
-      days-small = omega (arith, b .days-low);
+      years-small = part-small (d .years) (2 ^ 32) (b .years-low) (omega arith);
+      months-small = part-small (d .months) (2 ^ 32) (b .months-low) (omega arith);
+      weeks-small = part-small (d .weeks) (2 ^ 32) (b .weeks-low) (omega arith);
+      days-small = part-small (d .days) (2 ^ 38) (b .days-low) (omega arith);
     }
 
 -- ---- validity
@@ -132,6 +138,10 @@ module _ (z : ℤ) (n : ℕ) (e : z ≡ negℤ (pos n)) where
 pub size-above : (z : ℤ) → pos 0 ≤ℤ z → z ≡ pos (natAbs z)
 size-above (pos n) h = refl
 size-above (negsuc n) h = let f : ⊥ = omega (arith, ints) in absurd f
+
+-- what a function makes of a part, handed on by locals
+pub part-is : (f : ℤ → ℤ) (x r : ℤ) → SFits w64 x → SFits w64 r → r ≡ f (toZ w64 (ofZ w64 x)) → toZ w64 (ofZ w64 r) ≡ f x
+part-is f x r g h e = toZ-ofZ h ∙ e ∙ ap f (toZ-ofZ g)
 
 pub same-parts : (a b c d a′ b′ c′ d′ : ℤ) → a ≡ a′ → b ≡ b′ → c ≡ c′ → d ≡ d′ → duration a b c d ≡ duration a′ b′ c′ d′
 same-parts a b c d a′ b′ c′ d′ p q r s = rw (p, q, r, s)
