@@ -6,8 +6,11 @@ use mathlib.Core.Bool.{Bool, true, false, not, _&&_}
 use borrow.Author.Tests.{leb-true, leb-false, lt-ltb, le-ltb, ltb-true, ne-eqb}
 use lib.Dec.{leb, ltb}
 use lib.IntN.{ℤ, pos, negsuc, negℤ, negℤ-negℤ, natAbs}
-use lib.Signed.{leZ, _≤ℤ_, _<ℤ_}
-use Rattle.whole.proofs.Laws.{ints}
+use lib.Signed.{_≤ℤ_, _<ℤ_}
+use mir.Facts.{toZ-ofZ}
+use mir.Syntax.{w64}
+use mir.Val.{SFits, toZ, ofZ}
+use Rattle.whole.proofs.Laws.{ints, size-neg}
 use Rattle.whole.proofs.Tests.{both}
 use Rattle.refusal.specs.Answer.{refused}
 use Rattle.date_duration.specs.Proposal.{keptOr, duration, anyBelow, anyAbove, small, smallDays, allSmall, isValidDuration, signOf, orElse}
@@ -26,25 +29,14 @@ same-test n k a b f g = go (leb n k) refl
     go true e = e ∙ sym (lt-ltb a b (f (leb-true n k e)))
     go false e = e ∙ sym (le-ltb a b (g (leb-false n k e)))
 
-pub too-small : (z : ℤ) → z <ℤ negℤ (pos 4294967295) → false ≡ small z
+-- the size that each part may have
+pub small-is : (z : ℤ) → leb (natAbs z) 4294967295 ≡ small z
 unfolding small
-too-small (pos n) h = let f : ⊥ = omega (arith, ints) in absurd f
-too-small (negsuc n) h = sym (le-ltb (suc n) (2 ^ 32) (omega (arith, ints)))
+small-is z = same-test (natAbs z) 4294967295 (natAbs z) (2 ^ 32) (λ l. omega arith) (λ l. omega arith)
 
-pub small-enough : (z : ℤ) → negℤ (pos 4294967295) ≤ℤ z → leZ z (pos 4294967295) ≡ small z
-unfolding small
-small-enough (pos n) h = same-test n 4294967295 n (2 ^ 32) (λ l. omega arith) (λ l. omega arith)
-small-enough (negsuc n) h = sym (lt-ltb (suc n) (2 ^ 32) (omega (arith, ints)))
-
-pub too-few : (z : ℤ) → z <ℤ negℤ (pos 104249991374) → false ≡ smallDays z
+pub small-days-is : (z : ℤ) → leb (natAbs z) 104249991374 ≡ smallDays z
 unfolding smallDays
-too-few (pos n) h = let f : ⊥ = omega (arith, ints) in absurd f
-too-few (negsuc n) h = sym (le-ltb (suc n * 86400) (2 ^ 53) (omega (arith, ints)))
-
-pub few-enough : (z : ℤ) → negℤ (pos 104249991374) ≤ℤ z → leZ z (pos 104249991374) ≡ smallDays z
-unfolding smallDays
-few-enough (pos n) h = same-test n 104249991374 (n * 86400) (2 ^ 53) (λ l. omega arith) (λ l. omega arith)
-few-enough (negsuc n) h = sym (lt-ltb (suc n * 86400) (2 ^ 53) (omega (arith, ints)))
+small-days-is z = same-test (natAbs z) 104249991374 (natAbs z * 86400) (2 ^ 53) (λ l. omega arith) (λ l. omega arith)
 
 -- the parts of a valid duration are small
 pub record Bounded (d : DateDuration) : Type 0 where
@@ -67,21 +59,24 @@ bounded d e =
       days-low = omega (arith, ltb-true (natAbs (d .days) * 86400) (2 ^ 53) (c .1));
     }
 
--- and can be turned
+-- and can be turned, each as a local hands it back
+part-small : (x : ℤ) (n : ℕ) → natAbs x < n → n ≤ 2 ^ 38 → SFits w64 x → natAbs (toZ w64 (ofZ w64 x)) < 2 ^ 62
+part-small x n h l f = rw (toZ-ofZ f) (omega arith)
+
 pub record Turnable (d : DateDuration) : Type 0 where
-  pub years-small : natAbs (d .years) < 2 ^ 62
-  pub months-small : natAbs (d .months) < 2 ^ 62
-  pub weeks-small : natAbs (d .weeks) < 2 ^ 62
-  pub days-small : natAbs (d .days) < 2 ^ 62
+  pub years-small : SFits w64 (d .years) → natAbs (toZ w64 (ofZ w64 (d .years))) < 2 ^ 62
+  pub months-small : SFits w64 (d .months) → natAbs (toZ w64 (ofZ w64 (d .months))) < 2 ^ 62
+  pub weeks-small : SFits w64 (d .weeks) → natAbs (toZ w64 (ofZ w64 (d .weeks))) < 2 ^ 62
+  pub days-small : SFits w64 (d .days) → natAbs (toZ w64 (ofZ w64 (d .days))) < 2 ^ 62
 
 pub turnable : (d : DateDuration) → isValidDuration d ≡ true → Turnable d
 turnable d e =
     let b = bounded d e in
     record {
-      years-small = omega (arith, b .years-low);
-      months-small = omega (arith, b .months-low);
-      weeks-small = omega (arith, b .weeks-low);
-      days-small = omega (arith, b .days-low);
+      years-small = part-small (d .years) (2 ^ 32) (b .years-low) (omega arith);
+      months-small = part-small (d .months) (2 ^ 32) (b .months-low) (omega arith);
+      weeks-small = part-small (d .weeks) (2 ^ 32) (b .weeks-low) (omega arith);
+      days-small = part-small (d .days) (2 ^ 38) (b .days-low) (omega arith);
     }
 
 -- ---- validity
@@ -129,11 +124,7 @@ first-none z rest e = rw e
 -- of a number below zero with a size n
 module _ (z : ℤ) (n : ℕ) (e : z ≡ negℤ (pos n)) where
   size-is : natAbs z ≡ n
-  size-is = rw e (of-negative n)
-    where
-      of-negative : (k : ℕ) → natAbs (negℤ (pos k)) ≡ k
-      of-negative zero = refl
-      of-negative (suc k) = refl
+  size-is = rw e (size-neg n)
 
   pub size-small : natAbs z < 2 ^ 62 → n < 2 ^ 63
   size-small h = omega (arith, size-is)
@@ -147,6 +138,10 @@ module _ (z : ℤ) (n : ℕ) (e : z ≡ negℤ (pos n)) where
 pub size-above : (z : ℤ) → pos 0 ≤ℤ z → z ≡ pos (natAbs z)
 size-above (pos n) h = refl
 size-above (negsuc n) h = let f : ⊥ = omega (arith, ints) in absurd f
+
+-- what a function makes of a part, handed on by locals
+pub part-is : (f : ℤ → ℤ) (x r : ℤ) → SFits w64 x → SFits w64 r → r ≡ f (toZ w64 (ofZ w64 x)) → toZ w64 (ofZ w64 r) ≡ f x
+part-is f x r g h e = toZ-ofZ h ∙ e ∙ ap f (toZ-ofZ g)
 
 pub same-parts : (a b c d a′ b′ c′ d′ : ℤ) → a ≡ a′ → b ≡ b′ → c ≡ c′ → d ≡ d′ → duration a b c d ≡ duration a′ b′ c′ d′
 same-parts a b c d a′ b′ c′ d′ p q r s = rw (p, q, r, s)

@@ -1,6 +1,7 @@
 -- Two results of a call that its contract allows are one: an answer tells the case of the enum and what it carries. Assumes nothing.
-use mathlib.Core.Path.{_≡_, refl, sym, _∙_, ap}
+use mathlib.Core.Path.{_≡_, refl}
 use Rattle.refusal.specs.Answer.{Answer, given, refused}
+use Rattle.refusal.proofs.Answers.{one-result}
 use Rattle.date_duration.specs.Paper.{ofDuration, ofSign}
 use Rattle.date_duration.specs.declared.DateDuration.{DateDuration}
 use Rattle.date_duration.specs.declared.Sign.{Sign}
@@ -18,7 +19,7 @@ duration-back (V0.Duration x) = refl
 duration-back (V0.Refused n) = refl
 
 pub one-duration : (a : Answer DateDuration) (r s : DurationResult) → ofDuration r ≡ a → ofDuration s ≡ a → r ≡ s
-one-duration a r s e f = sym (duration-back r) ∙ ap to-duration (e ∙ sym f) ∙ duration-back s
+one-duration = one-result ofDuration to-duration duration-back
 
 abbrev to-sign : Answer Sign → SignResult
 to-sign (given x) = V1.Sign x
@@ -29,4 +30,4 @@ sign-back (V1.Sign x) = refl
 sign-back (V1.Refused n) = refl
 
 pub one-sign : (a : Answer Sign) (r s : SignResult) → ofSign r ≡ a → ofSign s ≡ a → r ≡ s
-one-sign a r s e f = sym (sign-back r) ∙ ap to-sign (e ∙ sym f) ∙ sign-back s
+one-sign = one-result ofSign to-sign sign-back

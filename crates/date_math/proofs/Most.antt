@@ -8,7 +8,8 @@ use mathlib.Core.Bool.{Bool, true, false, not, _&&_, _||_}
 use lib.IntN.{ℤ, pos, negsuc, negℤ, natAbs, _+ℤ_, _*ℤ_}
 use lib.Signed.{ltZ, _≤ℤ_, _<ℤ_}
 use mathlib.Core.Logic.{⊎-elim}
-use Rattle.whole.proofs.Laws.{ints, split, quotient, read-add, read-neg}
+use Rattle.whole.proofs.Laws.{ints, split, quotient, read-add, read-neg, size-neg}
+use Rattle.whole.proofs.Tests.{and-false, or-true, clash}
 use Rattle.iso_date.specs.declared.IsoDate.{IsoDate}
 use Rattle.date_math.specs.Proposal.{directed}
 use Rattle.date_math.specs.Rules.{onTheWay, Most}
@@ -31,19 +32,11 @@ on a b t h k =
     let f : ltZ b t ≡ false = omega (arith, ints) in
     rw (e, f)
 
-or-true : (x : Bool) → (x || true) ≡ true
-or-true true = refl
-or-true false = refl
-
 on-back : (a b t : ℤ) → b ≤ℤ t → t ≤ℤ a → between a b t ≡ true
 on-back a b t h k =
     let e : ltZ a t ≡ false = omega (arith, ints) in
     let f : ltZ t b ≡ false = omega (arith, ints) in
     rw (e, f) (or-true (not (ltZ t a) && not (ltZ b t)))
-
-and-false : (x : Bool) → (x && false) ≡ false
-and-false true = refl
-and-false false = refl
 
 -- below both ends, or above both
 off-below : (a b t : ℤ) → t <ℤ a → t <ℤ b → between a b t ≡ false
@@ -89,15 +82,11 @@ stands-against false a b t x gap e f h = go (ltZ (pos 0) x) refl
 
 pub size-directed : (forward : Bool) (n : ℕ) → natAbs (directed forward n) ≡ n
 size-directed true n = refl
-size-directed false zero = refl
-size-directed false (suc n) = refl
+size-directed false n = size-neg n
 
 size-times : (step : ℕ) (k : ℤ) → natAbs (pos step *ℤ k) ≡ step * natAbs k
 size-times step (pos k) = refl
-size-times step (negsuc k) = size-directed false (step * suc k)
-
-clash : {A : Type 0} (t : Bool) → t ≡ true → t ≡ false → A
-clash t e f = let z : _≡_ {A = ℕ} 0 1 = cc in let n : ⊥ = omega arith in absurd n
+size-times step (negsuc k) = size-neg (step * suc k)
 
 -- ---- the most
 

@@ -1,12 +1,12 @@
 -- A triple of year, month and day as one number, its place: the order of triples is that of their places, and moving by years and
 -- months, the day not shortened, moves the place by 384 and 32. Assumes nothing.
-use Prim.Native.Nat.{ℕ, _+_, _*_, _≤_}
+use Prim.Native.Nat.{ℕ, _+_, _-_, _*_, _≤_}
 use native.Mathlib.Omega.{arith}
 use mathlib.Core.Path.{_≡_, refl, sym, _∙_, ap, ap₂}
 use mathlib.Core.Bool.{Bool, true, false, _&&_, _||_}
 use borrow.Author.Tests.{ltb-true, ltb-false, leb-true, leb-false}
 use lib.Dec.{ltb, leb}
-use lib.IntN.{ℤ, pos, negℤ, _+ℤ_, _-ℤ_, _*ℤ_}
+use lib.IntN.{ℤ, pos, negℤ, _+ℤ_, _-ℤ_, _*ℤ_, +ℤ-assoc}
 use lib.Signed.{ltZ, leZ}
 use Rattle.whole.specs.Whole.{fdiv, fmod}
 use Rattle.whole.proofs.Laws.{ints, whole, parts, read-add, read-neg, read-times, fdiv-fmod, fmod-lt}
@@ -108,6 +108,15 @@ directed-times false a k = simp whole (omega arith)
 pub directed-add : (forward : Bool) (a b : ℕ) → directed forward a +ℤ directed forward b ≡ directed forward (a + b)
 directed-add true a b = refl
 directed-add false a b = simp whole (omega arith)
+
+pub directed-none : (forward : Bool) → directed forward 0 ≡ pos 0
+directed-none true = refl
+directed-none false = refl
+
+pub split-at : (forward : Bool) (a : ℤ) (k n : ℕ) → k ≤ n → a +ℤ directed forward n ≡ a +ℤ directed forward k +ℤ directed forward (n - k)
+split-at forward a k n h =
+    let e : k + (n - k) ≡ n = omega arith in
+    sym (+ℤ-assoc a (directed forward k) (directed forward (n - k)) ∙ ap (λ (z : ℤ). a +ℤ z) (directed-add forward k (n - k) ∙ ap (directed forward) e))
 
 pub place-moved-on : (forward : Bool) (d : IsoDate) (y m : ℕ) →
     placeOf (movedBy d (directed forward y) (directed forward m)) ≡ placeOf d +ℤ directed forward (384 * y + 32 * m)

@@ -9,7 +9,7 @@ use mathlib.Core.Bool.{Bool, true, false}
 use lib.IntN.{ℤ, pos, negℤ, natAbs, _+ℤ_, _-ℤ_, _*ℤ_}
 use lib.Signed.{ltZ, _≤ℤ_}
 use Rattle.whole.specs.Whole.{fdiv, fmod}
-use Rattle.whole.proofs.Laws.{ints, size-of, up, dn, split, read-add, read-neg, read-times, range-of, fdiv-fmod, fdiv-unique, fmod-lt}
+use Rattle.whole.proofs.Laws.{ints, size-of, up, dn, split, read-add, read-neg, read-times, range-of, fdiv-fmod, fdiv-unique, fmod-lt, le-by-test}
 use Rattle.iso_date.specs.Proposal.{date, epochDays, isValidISODate, isoDaysInMonth, constrainISODate, clampTo}
 use Rattle.iso_date.specs.declared.IsoDate.{IsoDate}
 use Rattle.iso_date.proofs.Dates.{read-valid}
@@ -28,11 +28,8 @@ Ahead false a b = b ≤ℤ a
 
 pub days-by-places : (a b : IsoDate) → isValidISODate a ≡ true → isValidISODate b ≡ true → placeOf a ≤ℤ placeOf b → epochDays a ≤ℤ epochDays b
 days-by-places a b v w h =
-    go (placeOf a) (placeOf b) (epochDays a) (epochDays b)
+    le-by-test (placeOf a) (placeOf b) (epochDays a) (epochDays b)
     (sym (later-day a b v w) ∙ later-place a b (valid-proper a v) (valid-proper b w)) h
-  where
-    go : (p q x y : ℤ) → ltZ y x ≡ ltZ q p → p ≤ℤ q → x ≤ℤ y
-    go p q x y e h = let f : ltZ q p ≡ false = omega (arith, ints) in let g : ltZ y x ≡ false = e ∙ f in omega (arith, ints)
 
 pub ahead-by-places : (forward : Bool) (a b : IsoDate) → isValidISODate a ≡ true → isValidISODate b ≡ true →
     Ahead forward (placeOf a) (placeOf b) → Ahead forward (epochDays a) (epochDays b)

@@ -20,6 +20,7 @@ use Rattle.options.specs.Units.{unitRank}
 use Rattle.date_math.specs.Proposal.{movedBy, directed, restStart}
 use Rattle.date_math.specs.Paper.{clampedYear}
 use Rattle.date_math.specs.Inner.{placeOf, placeBias, yearsIn, monthsIn, weeksIn}
+use Rattle.date_math.proofs.Places.{directed-none}
 
 -- ---- a count with its sign
 
@@ -77,18 +78,6 @@ unfolding placeOf
 place-is y u m d e =
     omega (arith, ints, read-times 384 y, read-diff u yearBias, read-add (pos 384 *ℤ y) (pos (32 * m + d)), read-diff (384 * u + 32 * m + d) placeBias)
 
--- ---- numbers of a bounded size, raised
-
-size-parts : (z : ℤ) → natAbs z ≡ up z + dn z
-size-parts (pos n) = omega arith
-size-parts (negsuc n) = omega arith
-
-pub raise-room : (z : ℤ) (k : ℕ) → natAbs z < k → k < 2 ^ 62 → (k < 2 ^ 63) × (((0 ⊖ k) ≤ℤ z) × (z <ℤ ((2 ^ 63) ⊖ k)))
-raise-room z k h l = omega (arith, ints, size-parts z, read-diff 0 k, read-diff (2 ^ 63) k)
-
-pub raised-within : (z : ℤ) (r k n : ℕ) → z ≡ r ⊖ k → natAbs z < n → n ≤ k → (k < r + n) × (r < k + n)
-raised-within z r k n e h l = omega (arith, ints, size-parts z, read-diff r k)
-
 -- ---- the sum of days
 
 pub days-sum : (x n w z : ℤ) (a b c : ℕ) → x ≡ a ⊖ (dayBias + 1) → n ≡ b ⊖ (2 ^ 38) → w ≡ c ⊖ (2 ^ 32) →
@@ -144,10 +133,6 @@ moved-months y s t m d u k h e f g =
     let z : y +ℤ s +ℤ q ≡ (k / 12) ⊖ yearBias =
     omega (arith, ints, read-diff u yearBias, read-add y s, read-diff (k / 12) u, read-add (y +ℤ s) q, read-diff (k / 12) yearBias) in
     rw (n .0, n .1, z)
-
-directed-none : (forward : Bool) → directed forward 0 ≡ pos 0
-directed-none true = refl
-directed-none false = refl
 
 pub rest-start-is : (forward leap : Bool) (y : ℤ) (m d u k months n most s : ℕ) → 1 ≤ m → y ≡ u ⊖ yearBias →
     k ⊖ 0 ≡ ((12 * u + (m - 1)) ⊖ 0) +ℤ directed forward months → leap ≡ leapYear ((k / 12) ⊖ yearBias) →

@@ -7,6 +7,7 @@ use borrow.Author.Tests.{le-leb, lt-leb}
 use lib.IntN.{ℤ, pos, negℤ, _+ℤ_, _*ℤ_}
 use lib.Signed.{ltZ, _≤ℤ_}
 use Rattle.refusal.specs.Answer.{Answer, given, refused, check, numberOf}
+use Rattle.refusal.proofs.Answers.{given-inj, never}
 use Rattle.whole.specs.Whole.{fdiv}
 use Rattle.whole.proofs.Laws.{ints, read-add}
 use Rattle.whole.proofs.Edges.{clamp-same}
@@ -80,12 +81,6 @@ limit-year d f =
     go y i n e h l m = (low y n i e h l (ltZ y (negℤ (pos 300000))) refl, high y n i e m (ltZ (pos 300000) y) refl)
 
 -- ---- the sum when the date and the start of the rest are fine
-
-given-inj : {A : Type 0} (a b : A) → given a ≡ given b → a ≡ b
-given-inj a b e = cc
-
-pub never : {A B : Type 0} (a : A) (n : ℕ) → refused n ≡ given a → B
-never a n e = let z : _≡_ {A = ℕ} 0 1 = cc in let f : ⊥ = omega arith in absurd f
 
 -- constraining leaves the year, so that the clamp of a fine start's year does nothing
 no-clamp : (t : IsoDate) → Fine (constrainISODate t) → clampedYear t ≡ t

@@ -8,7 +8,8 @@ use borrow.Author.Tests.{lt-ltb}
 use lib.IntN.{ℤ, pos, negℤ, natAbs, _+ℤ_, _-ℤ_, _*ℤ_, +ℤ-assoc}
 use lib.Signed.{ltZ, _≤ℤ_}
 use Rattle.refusal.specs.Answer.{given}
-use Rattle.whole.proofs.Laws.{ints, size-of, range-of, read-add, read-neg, read-times}
+use Rattle.whole.proofs.Laws.{ints, size-of, range-of, read-add, read-neg, read-times, le-by-test}
+use Rattle.whole.proofs.Tests.{and-false, or-true, clash}
 use Rattle.iso_date.specs.Proposal.{epochDays, isValidISODate, isoDateWithinLimits}
 use Rattle.iso_date.specs.Paper.{dayToDate}
 use Rattle.iso_date.specs.declared.IsoDate.{IsoDate}
@@ -21,7 +22,7 @@ use Rattle.date_math.specs.Proposal.{directed, movedBy, inYears, restSta
 use Rattle.date_math.specs.Paper.{isDateUnit, dateSum, dateDifference}
 use Rattle.date_math.specs.Rules.{onTheWay, MeetsTheRules}
 use Rattle.date_math.specs.Inner.{placeOf, yearsIn, monthsIn, weeksIn}
-use Rattle.date_math.proofs.Places.{later-place, place-years, place-moved, moved-proper, years-proper, directed-times, directed-add}
+use Rattle.date_math.proofs.Places.{later-place, place-years, place-moved, moved-proper, years-proper, directed-times, directed-add, directed-none, split-at}
 use Rattle.date_math.proofs.Order.{valid-proper, later-day}
 use Rattle.date_math.proofs.Rest.{Ahead, rest-between, distance-of}
 use Rattle.date_math.proofs.Until.{within-years, years-within, months-within, weeks-within, closed, difference-is}
@@ -29,14 +30,6 @@ use Rattle.date_math.proofs.Most.{between, way-is, size-directed, most-
 use Rattle.date_math.proofs.Sums.{Fine, fine, fine-limits, limit-year, sum-goes, sum-back, day-back}
 
 -- ---- parts of one direction
-
-none : (forward : Bool) → directed forward 0 ≡ pos 0
-none true = refl
-none false = refl
-
-and-false : (x : Bool) → (x && false) ≡ false
-and-false true = refl
-and-false false = refl
 
 module _ (forward : Bool) (y m w d : ℕ) where
   abbrev parts : DateDuration
@@ -62,19 +55,7 @@ module _ (forward : Bool) (y m w d : ℕ) where
   parts-valid a b c e =
       rw (size-directed forward y, size-directed forward m, size-directed forward w, size-directed forward d, lt-ltb y (2 ^ 32) a, lt-ltb m (2 ^ 32) b, lt-ltb w (2 ^ 32) c, lt-ltb (d * 86400) (2 ^ 53) e, one-way)
 
-split-at : (forward : Bool) (a : ℤ) (k n : ℕ) → k ≤ n → a +ℤ directed forward n ≡ a +ℤ directed forward k +ℤ directed forward (n - k)
-split-at forward a k n h =
-    let e : k + (n - k) ≡ n = omega arith in
-    sym (+ℤ-assoc a (directed forward k) (directed forward (n - k)) ∙ ap (λ (z : ℤ). a +ℤ z) (directed-add forward k (n - k) ∙ ap (directed forward) e))
-
 -- ---- weeks and days of one direction, fewer than seven days: the only pair of their sum
-
-or-true : (x : Bool) → (x || true) ≡ true
-or-true true = refl
-or-true false = refl
-
-clash : {A : Type 0} (t : Bool) → t ≡ true → t ≡ false → A
-clash t e f = let z : _≡_ {A = ℕ} 0 1 = cc in let n : ⊥ = omega arith in absurd n
 
 module _ (y m w d : ℤ) (apart : (anyBelow (duration y m w d) && anyAbove (duration y m w d)) ≡ false) where
   weeks-below : ltZ w (pos 0) ≡ true → ltZ (pos 0) d ≡ true → ⊥
@@ -251,7 +232,7 @@ module _ (one two : IsoDate) (unit : DateUnit) (one-fine : Fine one) (two-fine :
   no-weeks-counted e = rw e
 
   zero-part : (n : ℕ) → n ≡ 0 → directed forward n ≡ pos 0
-  zero-part n e = ap (directed forward) e ∙ none forward
+  zero-part n e = ap (directed forward) e ∙ directed-none forward
 
   answer-meets : MeetsTheRules one two unit answer
   answer-meets =
@@ -296,7 +277,7 @@ module _ (one two : IsoDate) (unit : DateUnit) (one-fine : Fine one) (two-fine :
       go false e =
           let z : w ≡ pos 0 = r .no-weeks e in
           let f : d ≡ directed forward rest = alone d w (directed forward rest) z (days-left w d (r .adds-back)) in
-          rw (no-weeks-counted e, z, f, none forward) (ap (λ (n : ℕ). duration (directed forward years) (directed forward months) (pos 0) (directed forward n)) (omega arith))
+          rw (no-weeks-counted e, z, f, directed-none forward) (ap (λ (n : ℕ). duration (directed forward years) (directed forward months) (pos 0) (directed forward n)) (omega arith))
         where
           alone : (d w s : ℤ) → w ≡ pos 0 → d +ℤ pos 7 *ℤ w ≡ s → d ≡ s
           alone d w s e f = omega (arith, ints, read-times 7 w, read-add d (pos 7 *ℤ w))
@@ -342,11 +323,8 @@ module _ {A : Type 0} (one two : IsoDate) (go-on : (forward : Bool) (gap : ℕ) 
 
 places-by-days : (a b : IsoDate) → isValidISODate a ≡ true → isValidISODate b ≡ true → epochDays a ≤ℤ epochDays b → placeOf a ≤ℤ placeOf b
 places-by-days a b v w h =
-    go (placeOf a) (placeOf b) (epochDays a) (epochDays b)
+    le-by-test (epochDays a) (epochDays b) (placeOf a) (placeOf b)
     (sym (later-place a b (valid-proper a v) (valid-proper b w)) ∙ later-day a b v w) h
-  where
-    go : (p q x y : ℤ) → ltZ q p ≡ ltZ y x → x ≤ℤ y → p ≤ℤ q
-    go p q x y e h = let f : ltZ y x ≡ false = omega (arith, ints) in let g : ltZ q p ≡ false = e ∙ f in omega (arith, ints)
 
 places-ahead : (forward : Bool) (a b : IsoDate) → isValidISODate a ≡ true → isValidISODate b ≡ true →
     Ahead forward (epochDays a) (epochDays b) → Ahead forward (placeOf a) (placeOf b)

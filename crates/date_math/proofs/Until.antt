@@ -21,7 +21,7 @@ use Rattle.options.specs.declared.Unit.{Unit as DateUnit}
 use Rattle.date_math.specs.Proposal.{isLater, isoDateSurpasses, directed, movedBy, inYears, addDaysToISODate, yearsUntil, monthsUntil, restStart, daysUntil, yearsFound, monthsFound, weeksFound, restFound, dateUntil, calendarDateUntil, countsYears, countsMonths, countsWeeks}
 use Rattle.date_math.specs.Inner.{placeOf, placeBias, yearsIn, monthsIn, weeksIn, apart}
 use Rattle.date_math.proofs.Kept.{kept-is}
-use Rattle.date_math.proofs.Places.{later-place, place-years, moved-proper, years-proper, place-moved-on, directed-times, surpasses-by, beyond-is, surpasses-is}
+use Rattle.date_math.proofs.Places.{later-place, place-years, moved-proper, years-proper, place-moved-on, directed-times, split-at, surpasses-by, beyond-is, surpasses-is}
 use Rattle.date_math.proofs.Order.{valid-proper, later-day}
 use Rattle.date_math.proofs.Rest.{Ahead, rest-between, fold-years, distance-is}
 
@@ -148,11 +148,6 @@ days-are forward step start two rest h w far =
     enough : (n : ℕ) → n ≡ rest → (step : ℕ) → 0 < step → rest < step * (n + 1)
     enough n e step h = omega (arith, mul-le-mul-right (n + 1) h)
 
-further-on : (forward : Bool) (a b : ℤ) (n k : ℕ) → k ≤ n → b ≡ a +ℤ directed forward n → b ≡ a +ℤ directed forward k +ℤ directed forward (n - k)
-further-on true a b n k h e = omega (arith, ints, read-add a (pos n), read-add a (pos k), read-add (a +ℤ pos k) (pos (n - k)))
-further-on false a b n k h e =
-    omega (arith, ints, read-neg (pos n), read-neg (pos k), read-neg (pos (n - k)), read-add a (negℤ (pos n)), read-add a (negℤ (pos k)), read-add (a +ℤ negℤ (pos k)) (negℤ (pos (n - k))))
-
 -- ---- the whole
 
 -- with a gap of places between the dates and a rest of days
@@ -186,7 +181,7 @@ module _ (forward : Bool) (one two : IsoDate) (unit : DateUnit) (v : isValidISOD
       let start : IsoDate = restStart forward one (yearsIn unit gap) (monthsIn unit gap) in
       let k : ℤ = epochDays start +ℤ directed forward (7 * weeksIn unit rest) in
       days-are forward 1 (epochDaysToISODate k) two (rest - 7 * weeksIn unit rest) (omega arith) w
-      (rw (back-and-there k) (further-on forward (epochDays start) (epochDays two) rest (7 * weeksIn unit rest) (weeks-within unit rest) left)) ∙
+      (rw (back-and-there k) (left ∙ split-at forward (epochDays start) (7 * weeksIn unit rest) rest (weeks-within unit rest))) ∙
       by-one (rest - 7 * weeksIn unit rest)
     where
       by-one : (n : ℕ) → n / 1 ≡ n

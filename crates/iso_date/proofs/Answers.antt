@@ -9,8 +9,10 @@ use lib.ListN.{getD}
 use lib.IntN.{ℤ, pos, negℤ, natAbs, _+ℤ_, _-ℤ_, _*ℤ_}
 use lib.Signed.{ltZ, leZ, _≤ℤ_, _<ℤ_}
 use Rattle.refusal.specs.Answer.{given, refused, check}
+use Rattle.refusal.proofs.Answers.{given-inj, never}
 use Rattle.whole.specs.Whole.{_⊖_, fmod, clampZ}
-use Rattle.whole.proofs.Laws.{whole, ints, ⊖-same, ⊖-add, size-of, range-of, read-add, read-diff, read-times}
+use Rattle.whole.proofs.Laws.{whole, ints, ⊖-same, size-of, range-of, read-add, read-diff, read-times}
+use Rattle.whole.proofs.Tests.{both, and-false}
 use Rattle.iso_date.specs.Proposal.{date, leapYear, monthLengths, isoDaysInMonth, dayFromMonth, isoDateToEpochDays, epochDays, epochDaysToISODate, isValidISODate, balancedYear, constrainISODate, clampTo, momentWithinLimits, isoDateWithinLimits, noon, nsPerDay, nsLimit}
 use Rattle.iso_date.specs.Paper.{monthLength, balanced, yearMonth, balanceYearMonth, dateToDay, dayToDate, regulateDate, makeDate, dateLimits, balanceDate}
 use Rattle.iso_date.specs.Inner.{yearBias, monthBias, dayBias, Balances}
@@ -19,10 +21,6 @@ use Rattle.options.specs.declared.Overflow.{Overflow}
 use Rattle.options.specs.declared.Overflow.the-variants.{Constrain, Reject}
 use Rattle.iso_date.proofs.Dates.{Valid, show-valid, plain-month}
 use Rattle.iso_date.proofs.Tables.{length-least}
-
-and-false : (a b : Bool) → b ≡ false → (a && b) ≡ false
-and-false true b e = e
-and-false false b e = refl
 
 -- ---- the year-month balance
 
@@ -44,7 +42,7 @@ too-low n h = let t : leZ (negℤ (pos 100000001)) n ≡ false = omega (arith, i
 
 pub too-high : (n : ℤ) → pos 100000001 <ℤ n → balanced n ≡ false
 unfolding balanced
-too-high n h = and-false (leZ (negℤ (pos 100000001)) n) (leZ n (pos 100000001)) (omega (arith, ints))
+too-high n h = let t : leZ n (pos 100000001) ≡ false = omega (arith, ints) in rw t (and-false (leZ (negℤ (pos 100000001)) n))
 
 pub in-range : (n : ℤ) → negℤ (pos 100000001) ≤ℤ n → n ≤ℤ pos 100000001 → balanced n ≡ true
 unfolding balanced
@@ -53,30 +51,46 @@ in-range n a b =
     let s : leZ n (pos 100000001) ≡ true = omega (arith, ints) in
     rw (t, s)
 
--- ---- the date limits are days -100,000,001 to 100,000,000, though noon is what the definition tests
+-- ---- the limits of a moment, by its day and its nanosecond of the day
 
-module _ (n : ℤ) where
+module _ (n : ℤ) (ns : ℕ) where
   abbrev moment : ℤ
-  moment = pos nsPerDay *ℤ n +ℤ pos noon
+  moment = pos nsPerDay *ℤ n +ℤ pos ns
 
-  pub limits-low : n <ℤ negℤ (pos 100000001) → momentWithinLimits n noon ≡ false
-  unfolding momentWithinLimits
-  limits-low h =
-      let t : ltZ (negℤ (pos nsLimit)) moment ≡ false = omega (arith, ints, read-times nsPerDay n, read-add (pos nsPerDay *ℤ n) (pos noon)) in
-      rw t
-
-  pub limits-high : pos 100000000 <ℤ n → momentWithinLimits n noon ≡ false
-  unfolding momentWithinLimits
-  limits-high h =
-      and-false (ltZ (negℤ (pos nsLimit)) moment) (ltZ moment (pos nsLimit))
-      (omega (arith, ints, read-times nsPerDay n, read-add (pos nsPerDay *ℤ n) (pos noon)))
-
-  pub limits-in : negℤ (pos 100000001) ≤ℤ n → n ≤ℤ pos 100000000 → momentWithinLimits n noon ≡ true
+  pub limits-in : negℤ (pos nsLimit) <ℤ moment → moment <ℤ pos nsLimit → momentWithinLimits n ns ≡ true
   unfolding momentWithinLimits
   limits-in a b =
-      let t : ltZ (negℤ (pos nsLimit)) moment ≡ true = omega (arith, ints, read-times nsPerDay n, read-add (pos nsPerDay *ℤ n) (pos noon)) in
-      let s : ltZ moment (pos nsLimit) ≡ true = omega (arith, ints, read-times nsPerDay n, read-add (pos nsPerDay *ℤ n) (pos noon)) in
+      let t : ltZ (negℤ (pos nsLimit)) moment ≡ true = omega (arith, ints) in
+      let s : ltZ moment (pos nsLimit) ≡ true = omega (arith, ints) in
       rw (t, s)
+
+  module _ (small : ns < nsPerDay) where
+    pub limits-low : n <ℤ negℤ (pos 100000001) → momentWithinLimits n ns ≡ false
+    unfolding momentWithinLimits
+    limits-low h =
+        let t : ltZ (negℤ (pos nsLimit)) moment ≡ false = omega (arith, ints, read-times nsPerDay n, read-add (pos nsPerDay *ℤ n) (pos ns)) in
+        rw t
+
+    pub limits-high : pos 100000000 <ℤ n → momentWithinLimits n ns ≡ false
+    unfolding momentWithinLimits
+    limits-high h =
+        let t : ltZ moment (pos nsLimit) ≡ false = omega (arith, ints, read-times nsPerDay n, read-add (pos nsPerDay *ℤ n) (pos ns)) in
+        rw t (and-false (ltZ (negℤ (pos nsLimit)) moment))
+
+    pub limits-days : momentWithinLimits n ns ≡ true → (negℤ (pos 100000001) ≤ℤ n) × (n ≤ℤ pos 100000000)
+    unfolding momentWithinLimits
+    limits-days e =
+        let b = both (ltZ (negℤ (pos nsLimit)) moment) (ltZ moment (pos nsLimit)) e in
+        let t = read-times nsPerDay n in
+        let s = read-add (pos nsPerDay *ℤ n) (pos ns) in
+        (omega (arith, ints, b .0), omega (arith, ints, b .1))
+
+-- the date limits are days -100,000,001 to 100,000,000, though noon is what the definition tests
+pub noon-in : (n : ℤ) → negℤ (pos 100000001) ≤ℤ n → n ≤ℤ pos 100000000 → momentWithinLimits n noon ≡ true
+noon-in n a b =
+    let t = read-times nsPerDay n in
+    let s = read-add (pos nsPerDay *ℤ n) (pos noon) in
+    limits-in n noon (omega (arith, ints)) (omega (arith, ints))
 
 -- ---- valid fields
 
@@ -91,7 +105,7 @@ module _ (y : ℤ) (m d : ℕ) where
 
   pub day-zero : d < 1 → isValidISODate (date y m d) ≡ false
   unfolding isValidISODate
-  day-zero h = simp (lt-leb 1 d h) (and-false (leb 1 m && leb m 12) false refl)
+  day-zero h = simp (lt-leb 1 d h) (and-false (leb 1 m && leb m 12))
 
   pub day-decides : 1 ≤ m → m ≤ 12 → 1 ≤ d → leb d (isoDaysInMonth y m) ≡ isValidISODate (date y m d)
   unfolding isValidISODate
@@ -218,25 +232,9 @@ module _ (day carry : ℤ) (few : natAbs carry < 2 ^ 52) where
   pub carried-high : pos 1000000000000000000 <ℤ day → pos 900000000000000000 <ℤ (day +ℤ carry)
   carried-high h = omega (arith, ints, read-add day carry, size-of carry, range-of carry)
 
-module _ (carry : ℤ) (few : natAbs carry < 2 ^ 52) where
-  pub carry-low : (0 ⊖ 4503599627370496) ≤ℤ carry
-  carry-low = omega (arith, ints, read-diff 0 4503599627370496, size-of carry, range-of carry)
-
-  pub carry-high : carry <ℤ ((2 ^ 63) ⊖ 4503599627370496)
-  carry-high = omega (arith, ints, read-diff (2 ^ 63) 4503599627370496, size-of carry, range-of carry)
-
-  pub carry-raised : (r : ℕ) → carry ≡ r ⊖ 4503599627370496 → r < 2 ^ 53
-  carry-raised r e = omega (arith, ints, read-diff r 4503599627370496, size-of carry, range-of carry)
-
 -- as a natural it is at most twice what it was raised by
 pub day-raised : (day : ℤ) (r : ℕ) → day ≤ℤ pos 1000000000000000000 → day ≡ r ⊖ 1000000000000000000 → r ≤ 2000000000000000000
 day-raised day r h e = omega (arith, ints, read-diff r 1000000000000000000)
-
-pub carried-sum : (day carry : ℤ) (a b k l : ℕ) → day ≡ a ⊖ k → carry ≡ b ⊖ l → day +ℤ carry ≡ (a + b) ⊖ (k + l)
-carried-sum day carry a b k l e f = rw (e, f) (⊖-add a k b l)
-
-pub no-carry : (day : ℤ) → day +ℤ pos 0 ≡ day
-no-carry day = omega (arith, ints, read-add day (pos 0))
 
 -- ---- tests of the code as orders, and what is left of a test
 
@@ -244,14 +242,8 @@ pub limits-decide : (n : ℤ) → negℤ (pos 100000001) ≤ℤ n → leZ n (pos
 limits-decide n h = go (leZ n (pos 100000000)) refl
   where
     go : (t : Bool) → leZ n (pos 100000000) ≡ t → leZ n (pos 100000000) ≡ momentWithinLimits n noon
-    go true e = e ∙ sym (limits-in n h (omega (arith, ints)))
-    go false e = e ∙ sym (limits-high n (omega (arith, ints)))
-
-pub test-true : (a b : ℤ) → ltZ a b ≡ true → a <ℤ b
-test-true a b e = omega (arith, ints)
-
-pub test-false : (a b : ℤ) → ltZ a b ≡ false → b ≤ℤ a
-test-false a b e = omega (arith, ints)
+    go true e = e ∙ sym (noon-in n h (omega (arith, ints)))
+    go false e = e ∙ sym (limits-high n noon (omega arith) (omega (arith, ints)))
 
 -- a month has a day
 pub length-positive : (y : ℤ) (m : ℕ) → 1 ≤ m → m ≤ 12 → 1 ≤ isoDaysInMonth y m
@@ -270,12 +262,6 @@ constrain-valid d =
     show-valid (d .year) m (clampTo (isoDaysInMonth (d .year) m) (d .day))
     (record { month-low = low; month-high = high; day-low = omega arith; day-high = omega arith })
 
-given-inj : {A : Type 0} (a b : A) → given a ≡ given b → a ≡ b
-given-inj a b e = cc
-
-never : {A : Type 0} (a : A) (n : ℕ) → given a ≡ refused n → ⊥
-never a n e = let z : _≡_ {A = ℕ} 0 1 = cc in omega arith
-
 pub regulated-valid : (d e : IsoDate) (o : Overflow) → given e ≡ regulateDate d o → isValidISODate e ≡ true
 unfolding regulateDate
 regulated-valid d e Constrain h = rw (given-inj e (constrainISODate d) h) (constrain-valid d)
@@ -283,7 +269,7 @@ regulated-valid d e Reject h = go (isValidISODate d) refl h
   where
     go : (t : Bool) → isValidISODate d ≡ t → given e ≡ check (isValidISODate d) 1 (given d) → isValidISODate e ≡ true
     go true v h = rw (given-inj e d (rw v at h)) v
-    go false v h = absurd (never e 1 (rw v at h))
+    go false v h = never e 1 (sym (rw v at h))
 
 -- the limits of a valid date, as the limit call answers them
 limits-said : (e : IsoDate) → isValidISODate e ≡ true → dateLimits e ≡ check (isoDateWithinLimits e) 2 (given tt)
@@ -303,7 +289,7 @@ module _ (d e : IsoDate) (o : Overflow) where
   make-out n h k = go (isoDateWithinLimits e) refl (k ∙ limits-said e (regulated-valid d e o h)) ∙ sym (made h)
     where
       go : (t : Bool) → isoDateWithinLimits e ≡ t → refused n ≡ check (isoDateWithinLimits e) 2 (given (tt {0})) → refused 2 ≡ check (isoDateWithinLimits e) 2 (given e)
-      go true w l = absurd (never tt n (sym (rw w at l)))
+      go true w l = never {A = Unit {0}} tt n (rw w at l)
       go false w l = rw w
 
   pub make-within : given e ≡ regulateDate d o → given tt ≡ dateLimits e → given e ≡ makeDate d o
@@ -311,7 +297,7 @@ module _ (d e : IsoDate) (o : Overflow) where
     where
       go : (t : Bool) → isoDateWithinLimits e ≡ t → given (tt {0}) ≡ check (isoDateWithinLimits e) 2 (given (tt {0})) → given e ≡ check (isoDateWithinLimits e) 2 (given e)
       go true w l = rw w
-      go false w l = absurd (never tt 2 (rw w at l))
+      go false w l = never {A = Unit {0}} tt 2 (sym (rw w at l))
 
 pub year-month-is : (y m z : ℤ) (u t year index : ℕ) → y ≡ u ⊖ yearBias → m ≡ t ⊖ monthBias → Balances u t year index →
     z ≡ clampZ (year ⊖ yearBias) (negℤ (pos (2 ^ 31))) (pos (2 ^ 31 - 1)) → yearMonth z (index + 1) ≡ balanceYearMonth y m

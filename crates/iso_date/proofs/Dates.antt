@@ -11,6 +11,7 @@ use lib.Signed.{_≤ℤ_, _<ℤ_}
 use Rattle.whole.specs.Whole.{_⊖_, fdiv, fmod}
 use Rattle.whole.proofs.Laws.{parts, whole, ints, read-add, read-neg, range-of, less-one}
 use Rattle.whole.proofs.Edges.{nat-of}
+use Rattle.whole.proofs.Tests.{both}
 use Rattle.iso_date.specs.Proposal.{date, dayFromYear, leapYear, monthLengths, isoDaysInMonth, daysBeforeMonth, dayFromMonth, isoDateToEpochDays, epochDays, yearFromDay, monthOf, dayOf, dateIn, epochDaysToISODate, isValidISODate}
 use Rattle.iso_date.specs.Inner.{yearBias, dayBias, yearStart, YearHolds, MonthHolds}
 use Rattle.iso_date.proofs.Months.{Found, found, found-back, year-sum, twelve, month-within, month-found}
@@ -24,22 +25,17 @@ pub record Valid (y : ℤ) (m d : ℕ) : Type 0 where
   pub day-low : 1 ≤ d
   pub day-high : d ≤ isoDaysInMonth y m
 
-four : (a b c d : Bool) → ((a && b) && (c && d)) ≡ true → (a ≡ true) × (b ≡ true) × (c ≡ true) × (d ≡ true)
-four true true true true e = (refl, refl, refl, refl)
-four true true true false e = let z : _≡_ {A = ℕ} 0 1 = cc in let f : ⊥ = omega arith in absurd f
-four true true false d e = let z : _≡_ {A = ℕ} 0 1 = cc in let f : ⊥ = omega arith in absurd f
-four true false c d e = let z : _≡_ {A = ℕ} 0 1 = cc in let f : ⊥ = omega arith in absurd f
-four false b c d e = let z : _≡_ {A = ℕ} 0 1 = cc in let f : ⊥ = omega arith in absurd f
-
 pub read-valid : (y : ℤ) (m d : ℕ) → isValidISODate (date y m d) ≡ true → Valid y m d
 unfolding isValidISODate
 read-valid y m d e =
-    let f = four (leb 1 m) (leb m 12) (leb 1 d) (leb d (isoDaysInMonth y m)) e in
+    let f = both (leb 1 m && leb m 12) (leb 1 d && leb d (isoDaysInMonth y m)) e in
+    let a = both (leb 1 m) (leb m 12) (f .0) in
+    let b = both (leb 1 d) (leb d (isoDaysInMonth y m)) (f .1) in
     record {
-      month-low = leb-true 1 m (f .0);
-      month-high = leb-true m 12 (f .1);
-      day-low = leb-true 1 d (f .2);
-      day-high = leb-true d (isoDaysInMonth y m) (f .3);
+      month-low = leb-true 1 m (a .0);
+      month-high = leb-true m 12 (a .1);
+      day-low = leb-true 1 d (b .0);
+      day-high = leb-true d (isoDaysInMonth y m) (b .1);
     }
 
 pub show-valid : (y : ℤ) (m d : ℕ) → Valid y m d → isValidISODate (date y m d) ≡ true

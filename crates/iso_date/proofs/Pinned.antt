@@ -1,8 +1,9 @@
 -- Two results of a call that its contract allows are one: an answer tells the case of the enum and what it carries. Assumes nothing.
 use Prim.Native.Nat.{ℕ}
 use lib.IntN.{ℤ}
-use mathlib.Core.Path.{_≡_, refl, sym, _∙_, ap}
+use mathlib.Core.Path.{_≡_, refl}
 use Rattle.refusal.specs.Answer.{Answer, given, refused}
+use Rattle.refusal.proofs.Answers.{one-result}
 use Rattle.iso_date.specs.Paper.{ofMonthLength, ofDay, ofDate, ofLimit}
 use Rattle.iso_date.specs.declared.IsoDate.{IsoDate}
 use Rattle.iso_date.specs.declared.MonthLength.{MonthLength}
@@ -23,7 +24,7 @@ length-back (V0.Days x) = refl
 length-back (V0.Refused n) = refl
 
 pub one-length : (a : Answer ℕ) (r s : MonthLength) → ofMonthLength r ≡ a → ofMonthLength s ≡ a → r ≡ s
-one-length a r s e f = sym (length-back r) ∙ ap to-length (e ∙ sym f) ∙ length-back s
+one-length = one-result ofMonthLength to-length length-back
 
 abbrev to-day : Answer ℤ → DayResult
 to-day (given x) = V1.Day x
@@ -34,7 +35,7 @@ day-back (V1.Day x) = refl
 day-back (V1.Refused n) = refl
 
 pub one-day : (a : Answer ℤ) (r s : DayResult) → ofDay r ≡ a → ofDay s ≡ a → r ≡ s
-one-day a r s e f = sym (day-back r) ∙ ap to-day (e ∙ sym f) ∙ day-back s
+one-day = one-result ofDay to-day day-back
 
 abbrev to-date : Answer IsoDate → DateResult
 to-date (given x) = V2.Date x
@@ -45,7 +46,7 @@ date-back (V2.Date x) = refl
 date-back (V2.Refused n) = refl
 
 pub one-date : (a : Answer IsoDate) (r s : DateResult) → ofDate r ≡ a → ofDate s ≡ a → r ≡ s
-one-date a r s e f = sym (date-back r) ∙ ap to-date (e ∙ sym f) ∙ date-back s
+one-date = one-result ofDate to-date date-back
 
 abbrev to-limit : Answer (Unit {0}) → LimitResult
 to-limit (given x) = V3.Within
@@ -56,4 +57,4 @@ limit-back V3.Within = refl
 limit-back (V3.Refused n) = refl
 
 pub one-limit : (a : Answer (Unit {0})) (r s : LimitResult) → ofLimit r ≡ a → ofLimit s ≡ a → r ≡ s
-one-limit a r s e f = sym (limit-back r) ∙ ap to-limit (e ∙ sym f) ∙ limit-back s
+one-limit = one-result ofLimit to-limit limit-back

@@ -13,7 +13,7 @@ use Rattle.iso_date.specs.Proposal.{dayFromMonth, isoDateToEpochDays, ep
 use Rattle.iso_date.specs.Paper.{balanced, dateToDay, dayToDate}
 use Rattle.iso_date.specs.declared.IsoDate.{IsoDate}
 use Rattle.iso_date.proofs.Dates.{read-valid, there-and-back, back-valid, back-and-there, one-date, plain-month}
-use Rattle.iso_date.proofs.Answers.{limits-low, limits-high, limits-in}
+use Rattle.iso_date.proofs.Answers.{limits-days, noon-in}
 
 -- ---- the two conversions are inverse over the balanced range, both ways
 
@@ -36,21 +36,7 @@ one-valid-date d e v w same =
 
 pub limits-are : (d : IsoDate) →
     (isoDateWithinLimits d ≡ true) ↔ ((negℤ (pos 100000001) ≤ℤ epochDays d) × (epochDays d ≤ℤ pos 100000000))
-limits-are d = (inside (epochDays d), (λ h. limits-in (epochDays d) (h .0) (h .1)))
-  where
-    clash : {A : Type 0} (b : Bool) → b ≡ true → b ≡ false → A
-    clash b e f = let z : _≡_ {A = ℕ} 0 1 = cc in let n : ⊥ = omega arith in absurd n
-
-    high : (n : ℤ) → momentWithinLimits n noon ≡ true → (t : Bool) → leZ n (pos 100000000) ≡ t → n ≤ℤ pos 100000000
-    high n e true f = omega (arith, ints)
-    high n e false f = clash (momentWithinLimits n noon) e (limits-high n (omega (arith, ints)))
-
-    low : (n : ℤ) → momentWithinLimits n noon ≡ true → (t : Bool) → ltZ n (negℤ (pos 100000001)) ≡ t → negℤ (pos 100000001) ≤ℤ n
-    low n e true f = clash (momentWithinLimits n noon) e (limits-low n (omega (arith, ints)))
-    low n e false f = omega (arith, ints)
-
-    inside : (n : ℤ) → momentWithinLimits n noon ≡ true → (negℤ (pos 100000001) ≤ℤ n) × (n ≤ℤ pos 100000000)
-    inside n e = (low n e (ltZ n (negℤ (pos 100000001))) refl, high n e (leZ n (pos 100000000)) refl)
+limits-are d = (limits-days (epochDays d) noon (omega arith), (λ h. noon-in (epochDays d) (h .0) (h .1)))
 
 -- ---- balancing: twelve months are a year, so month 13 is the next January, month 0 the December before, and so on below
 

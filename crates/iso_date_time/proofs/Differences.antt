@@ -14,6 +14,7 @@ use Rattle.whole.proofs.Tests.{both}
 use Rattle.iso_date.specs.Proposal.{epochDays, epochDaysToISODate, isValidISODate, momentWithinLimits, nsPerDay, nsLimit}
 use Rattle.iso_date.specs.Inner.{dayBias}
 use Rattle.iso_date.specs.declared.IsoDate.{IsoDate}
+use Rattle.iso_date.proofs.Answers.{limits-days}
 use Rattle.iso_date.proofs.Dates.{back-valid, back-and-there}
 use Rattle.iso_time.specs.Proposal.{nanoseconds, inSeconds}
 use Rattle.iso_time.specs.declared.TimeDuration.{TimeDuration}
@@ -36,19 +37,8 @@ use Rattle.iso_date_time.proofs.Turns.{moved-days-is, day-difference}
 -- ---- the days of a record within the limits
 
 pub fine-day : (r : IsoDateTime) → Fine r → (negℤ (pos 100000001) ≤ℤ epochDays (r .date)) × (epochDays (r .date) ≤ℤ pos 100000000)
-unfolding momentWithinLimits
-fine-day r f = go (epochDays (r .date)) (nanoseconds (r .time)) (below-day (r .time) (read-valid (r .time) (f .time-valid))) (f .within)
-  where
-    go : (n : ℤ) (ns : ℕ) → ns < nsPerDay →
-        (ltZ (negℤ (pos nsLimit)) (pos nsPerDay *ℤ n +ℤ pos ns) && ltZ (pos nsPerDay *ℤ n +ℤ pos ns) (pos nsLimit)) ≡ true →
-        (negℤ (pos 100000001) ≤ℤ n) × (n ≤ℤ pos 100000000)
-    go n ns h e =
-        let b = both _ _ e in
-        let l : ltZ (negℤ (pos nsLimit)) (pos nsPerDay *ℤ n +ℤ pos ns) ≡ true = b .0 in
-        let m : ltZ (pos nsPerDay *ℤ n +ℤ pos ns) (pos nsLimit) ≡ true = b .1 in
-        let t = read-times nsPerDay n in
-        let s = read-add (pos nsPerDay *ℤ n) (pos ns) in
-        (omega (arith, ints), omega (arith, ints))
+fine-day r f =
+    limits-days (epochDays (r .date)) (nanoseconds (r .time)) (below-day (r .time) (read-valid (r .time) (f .time-valid))) (f .within)
 
 -- ---- the turn between two records
 

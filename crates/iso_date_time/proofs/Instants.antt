@@ -9,12 +9,13 @@ use lib.IntN.{ℤ, pos, negsuc, negℤ, natAbs, _+ℤ_, _-ℤ_, _*ℤ_}
 use lib.Signed.{ltZ, leZ, _≤ℤ_, _<ℤ_}
 use Rattle.whole.specs.Whole.{_⊖_}
 use Rattle.whole.proofs.Laws.{parts, whole, ints, size-of, range-of, read-add, read-diff, read-times}
-use Rattle.whole.proofs.Edges.{nat-of}
+use Rattle.whole.proofs.Edges.{nat-of, raise-room}
 use Rattle.whole.proofs.Tests.{both}
 use Rattle.refusal.specs.Answer.{given, refused}
 use Rattle.iso_date.specs.Proposal.{epochDays, epochDaysToISODate, isoDateToEpochDays, dayFromMonth, isValidISODate, momentWithinLimits, nsPerDay, nsLimit}
 use Rattle.iso_date.specs.Inner.{dayBias}
 use Rattle.iso_date.specs.declared.IsoDate.{IsoDate}
+use Rattle.iso_date.proofs.Answers.{limits-in}
 use Rattle.iso_date.proofs.Dates.{back-valid, back-and-there}
 use Rattle.iso_time.specs.Proposal.{balanced, balanceTime, nanoseconds, isValidTime}
 use Rattle.iso_time.specs.declared.IsoTime.{IsoTime}
@@ -41,9 +42,7 @@ unfolding isOffset
 offset-small z e = ltb-true (natAbs z) nsPerDay e
 
 pub offset-room : (z : ℤ) → isOffset z ≡ true → (nsPerDay < 2 ^ 63) × (((0 ⊖ nsPerDay) ≤ℤ z) × (z <ℤ ((2 ^ 63) ⊖ nsPerDay)))
-offset-room z e =
-    let h = offset-small z e in
-    omega (arith, ints, size-of z, range-of z, read-diff 0 nsPerDay, read-diff (2 ^ 63) nsPerDay)
+offset-room z e = raise-room z nsPerDay (offset-small z e) (omega arith)
 
 -- ---- an instant, test by test
 
@@ -240,13 +239,9 @@ module _ (day ns offset : ℤ) where
 
 -- ---- from an instant the record is always within the limits
 
-within : (z : ℤ) → negℤ (pos nsLimit) <ℤ z → z <ℤ pos nsLimit → (ltZ (negℤ (pos nsLimit)) z && ltZ z (pos nsLimit)) ≡ true
-within z a b =
-    let t : ltZ (negℤ (pos nsLimit)) z ≡ true = omega (arith, ints) in let s : ltZ z (pos nsLimit) ≡ true = omega (arith, ints) in rw (t, s)
-
 exact-within : (r : IsoDateTime) → negℤ (pos nsLimit) <ℤ epochNanoseconds r → epochNanoseconds r <ℤ pos nsLimit → isoDateTimeWithinLimits r ≡ true
-unfolding momentWithinLimits epochNanoseconds
-exact-within r a b = within (epochNanoseconds r) a b
+unfolding epochNanoseconds
+exact-within r a b = limits-in (epochDays (r .date)) (nanoseconds (r .time)) a b
 
 module _ (day ns offset : ℤ) (i : isInstant day ns ≡ true) (o : isOffset offset ≡ true) where
   abbrev theRecord : IsoDateTime

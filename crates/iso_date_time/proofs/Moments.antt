@@ -9,10 +9,12 @@ use lib.Dec.{ltb}
 use lib.IntN.{ℤ, pos, negℤ, natAbs, _+ℤ_, _-ℤ_, _*ℤ_}
 use lib.Signed.{ltZ, _≤ℤ_, _<ℤ_}
 use Rattle.refusal.specs.Answer.{given, refused, check}
+use Rattle.refusal.proofs.Answers.{given-inj, never}
 use Rattle.whole.proofs.Laws.{ints, size-of, range-of, read-add, read-times}
 use Rattle.iso_date.specs.Proposal.{epochDaysToISODate, isoDateToEpochDays, isValidISODate, momentWithinLimits, nsPerDay, nsLimit}
 use Rattle.iso_date.specs.Paper.{balanced, balanceDate, dayToDate}
 use Rattle.iso_date.specs.declared.IsoDate.{IsoDate}
+use Rattle.iso_date.proofs.Answers.{limits-in}
 use Rattle.iso_time.specs.Proposal.{isValidTime, balanceTime, nanoseconds}
 use Rattle.iso_time.specs.Paper.{allBounded, balanceTimeFields}
 use Rattle.iso_time.specs.declared.BalancedTime.{BalancedTime}
@@ -24,45 +26,27 @@ use Rattle.iso_date_time.specs.declared.IsoDateTime.{IsoDateTime}
 
 -- ---- the limits
 
-and-false : (a b : Bool) → b ≡ false → (a && b) ≡ false
-and-false true b e = e
-and-false false b e = refl
-
 module _ (n : ℤ) (ns : ℕ) (small : ns < nsPerDay) where
-  abbrev moment : ℤ
-  moment = pos nsPerDay *ℤ n +ℤ pos ns
-
-  pub before-all : n <ℤ negℤ (pos 100000001) → false ≡ momentWithinLimits n ns
-  unfolding momentWithinLimits
-  before-all h =
-      let t : ltZ (negℤ (pos nsLimit)) moment ≡ false = omega (arith, ints, read-times nsPerDay n, read-add (pos nsPerDay *ℤ n) (pos ns)) in
-      rw t
-
-  pub after-all : pos 100000000 <ℤ n → false ≡ momentWithinLimits n ns
-  unfolding momentWithinLimits
-  after-all h =
-      sym (and-false (ltZ (negℤ (pos nsLimit)) moment) (ltZ moment (pos nsLimit))
-      (omega (arith, ints, read-times nsPerDay n, read-add (pos nsPerDay *ℤ n) (pos ns))))
-
   pub between : negℤ (pos 100000000) ≤ℤ n → n ≤ℤ pos 100000000 → true ≡ momentWithinLimits n ns
-  unfolding momentWithinLimits
   between a b =
-      let t : ltZ (negℤ (pos nsLimit)) moment ≡ true = omega (arith, ints, read-times nsPerDay n, read-add (pos nsPerDay *ℤ n) (pos ns)) in
-      let s : ltZ moment (pos nsLimit) ≡ true = omega (arith, ints, read-times nsPerDay n, read-add (pos nsPerDay *ℤ n) (pos ns)) in
-      rw (t, s)
+      let t = read-times nsPerDay n in
+      let s = read-add (pos nsPerDay *ℤ n) (pos ns) in
+      sym (limits-in n ns (omega (arith, ints)) (omega (arith, ints)))
 
   -- on the first day of all, midnight lies outside
   pub first-day : negℤ (pos 100000001) ≤ℤ n → n <ℤ negℤ (pos 100000000) → ltb 0 ns ≡ momentWithinLimits n ns
   unfolding momentWithinLimits
   first-day a b = go (ltb 0 ns) refl
     where
-      go : (t : Bool) → ltb 0 ns ≡ t → ltb 0 ns ≡ (ltZ (negℤ (pos nsLimit)) moment && ltZ moment (pos nsLimit))
+      go : (t : Bool) → ltb 0 ns ≡ t → ltb 0 ns ≡ momentWithinLimits n ns
       go true e =
-          let t : ltZ (negℤ (pos nsLimit)) moment ≡ true = omega (arith, ints, ltb-true 0 ns e, read-times nsPerDay n, read-add (pos nsPerDay *ℤ n) (pos ns)) in
-          let s : ltZ moment (pos nsLimit) ≡ true = omega (arith, ints, read-times nsPerDay n, read-add (pos nsPerDay *ℤ n) (pos ns)) in
-          rw (e, t, s)
+          let h = ltb-true 0 ns e in
+          let t = read-times nsPerDay n in
+          let s = read-add (pos nsPerDay *ℤ n) (pos ns) in
+          e ∙ sym (limits-in n ns (omega (arith, ints)) (omega (arith, ints)))
       go false e =
-          let t : ltZ (negℤ (pos nsLimit)) moment ≡ false = omega (arith, ints, ltb-false 0 ns e, read-times nsPerDay n, read-add (pos nsPerDay *ℤ n) (pos ns)) in
+          let h = ltb-false 0 ns e in
+          let t : ltZ (negℤ (pos nsLimit)) (pos nsPerDay *ℤ n +ℤ pos ns) ≡ false = omega (arith, ints, read-times nsPerDay n, read-add (pos nsPerDay *ℤ n) (pos ns)) in
           rw (e, t)
 
 -- ---- a record's checks
@@ -80,15 +64,9 @@ module _ (r : IsoDateTime) where
   unfolding dateTimeLimits
   limits-out e f g = rw (e, f, g)
 
-  pub limits-in : isValidISODate (r .date) ≡ true → isValidTime (r .time) ≡ true → isoDateTimeWithinLimits r ≡ true → given tt ≡ dateTimeLimits r
+  pub limits-within : isValidISODate (r .date) ≡ true → isValidTime (r .time) ≡ true → isoDateTimeWithinLimits r ≡ true → given tt ≡ dateTimeLimits r
   unfolding dateTimeLimits
-  limits-in e f g = rw (e, f, g)
-
-pub never : {A B : Type 0} (a : A) (n : ℕ) → refused n ≡ given a → B
-never a n e = let z : _≡_ {A = ℕ} 0 1 = cc in let f : ⊥ = omega arith in absurd f
-
-pub given-inj : {A : Type 0} (a b : A) → given a ≡ given b → a ≡ b
-given-inj a b e = cc
+  limits-within e f g = rw (e, f, g)
 
 -- what passing them tells
 pub record Fine (r : IsoDateTime) : Type 0 where

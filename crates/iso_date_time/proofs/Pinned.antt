@@ -1,6 +1,7 @@
 -- Two results of a call that its contract allows are one: an answer tells the case of the enum and what it carries. Assumes nothing.
-use mathlib.Core.Path.{_≡_, refl, sym, _∙_, ap}
+use mathlib.Core.Path.{_≡_, refl}
 use Rattle.refusal.specs.Answer.{Answer, given, refused}
+use Rattle.refusal.proofs.Answers.{one-result}
 use Rattle.iso_date_time.specs.Paper.{ofDateTime, ofDifference}
 use Rattle.iso_date_time.specs.declared.IsoDateTime.{IsoDateTime}
 use Rattle.iso_date_time.specs.declared.InternalDurationRecord.{InternalDurationRecord}
@@ -18,7 +19,7 @@ record-back (V0.DateTime x) = refl
 record-back (V0.Refused n) = refl
 
 pub one-record : (a : Answer IsoDateTime) (r s : DateTimeResult) → ofDateTime r ≡ a → ofDateTime s ≡ a → r ≡ s
-one-record a r s e f = sym (record-back r) ∙ ap to-record (e ∙ sym f) ∙ record-back s
+one-record = one-result ofDateTime to-record record-back
 
 abbrev to-difference : Answer InternalDurationRecord → DifferenceResult
 to-difference (given x) = V1.Difference x
@@ -29,4 +30,4 @@ difference-back (V1.Difference x) = refl
 difference-back (V1.Refused n) = refl
 
 pub one-difference : (a : Answer InternalDurationRecord) (r s : DifferenceResult) → ofDifference r ≡ a → ofDifference s ≡ a → r ≡ s
-one-difference a r s e f = sym (difference-back r) ∙ ap to-difference (e ∙ sym f) ∙ difference-back s
+one-difference = one-result ofDifference to-difference difference-back

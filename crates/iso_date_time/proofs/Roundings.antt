@@ -8,7 +8,8 @@ use lib.Dec.{ltb}
 use lib.IntN.{ℤ, pos, natAbs, _+ℤ_, _*ℤ_}
 use lib.Signed.{_≤ℤ_}
 use Rattle.refusal.specs.Answer.{Answer, given, refused, check, numberOf}
-use Rattle.whole.proofs.Laws.{ints, size-of, range-of, read-add}
+use Rattle.refusal.proofs.Answers.{given-inj, never}
+use Rattle.whole.proofs.Laws.{ints, size-of, range-of, add-none}
 use Rattle.iso_date.specs.Proposal.{epochDays, epochDaysToISODate, isValidISODate}
 use Rattle.iso_date.specs.Paper.{balanced, dayToDate}
 use Rattle.iso_date.specs.declared.IsoDate.{IsoDate}
@@ -23,7 +24,7 @@ use Rattle.options.specs.declared.Unit.{Unit as AnyUnit}
 use Rattle.iso_date_time.specs.Proposal.{dateTime, isoDateTimeWithinLimits}
 use Rattle.iso_date_time.specs.Paper.{dateTimeLimits, roundDateTime}
 use Rattle.iso_date_time.specs.declared.IsoDateTime.{IsoDateTime}
-use Rattle.iso_date_time.proofs.Moments.{never, given-inj, four-alone}
+use Rattle.iso_date_time.proofs.Moments.{four-alone}
 
 -- ---- what a rounded time is
 
@@ -58,7 +59,7 @@ day-valid d n e = go (balanced n) e
 
 -- no weeks
 pub days-alone : (a d : ℤ) → a +ℤ (d +ℤ pos 7 *ℤ pos 0) ≡ a +ℤ d
-days-alone a d = ap (λ (z : ℤ). a +ℤ z) (omega (arith, ints, read-add d (pos 0)))
+days-alone a d = ap (λ (z : ℤ). a +ℤ z) (add-none d)
 
 -- ---- the ways
 

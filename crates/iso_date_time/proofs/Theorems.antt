@@ -10,8 +10,10 @@ use lib.Dec.{ltb}
 use lib.IntN.{ℤ, pos, negsuc, negℤ, natAbs, _+ℤ_, _-ℤ_, _*ℤ_}
 use lib.Signed.{_≤ℤ_, quotZ, remZ}
 use Rattle.refusal.specs.Answer.{Answer, given, refused, check, andThen}
+use Rattle.refusal.proofs.Answers.{never}
 use Rattle.whole.specs.Whole.{_⊖_}
 use Rattle.whole.proofs.Laws.{whole, ints, parts, split, size-of, range-of, read-add, read-neg, read-times, read-diff}
+use Rattle.whole.proofs.Edges.{raised-is}
 use Rattle.iso_date.specs.Proposal.{epochDays, epochDaysToISODate, isValidISODate, nsPerDay}
 use Rattle.iso_date.specs.Paper.{balanced, dayToDate}
 use Rattle.iso_date.specs.Inner.{dayBias}
@@ -104,11 +106,6 @@ ahead-by : (forward : Bool) (x y : ℤ) (n : ℕ) → y -ℤ x ≡ directed forw
 ahead-by true x y n e = omega (arith, ints, read-neg x, read-add y (negℤ x))
 ahead-by false x y n e = omega (arith, ints, read-neg x, read-add y (negℤ x), read-neg (pos n))
 
--- a day number as a natural
-day-raised : (z : ℤ) (K : ℕ) → negℤ (pos K) ≤ℤ z → z ≡ natAbs (z +ℤ pos K) ⊖ K
-day-raised z K h =
-    omega (arith, ints, read-neg (pos K), size-of (z +ℤ pos K), range-of (z +ℤ pos K), read-add z (pos K), read-diff (natAbs (z +ℤ pos K)) K)
-
 -- there is a turn between any two moments
 module _ {A : Type 0} (p a q b : ℕ) (k : a < nsPerDay) (l : b < nsPerDay)
     (go-on : (day : ℕ) (forward : Bool) (ns : ℕ) → Turns p a q b day forward ns → A) where
@@ -183,8 +180,8 @@ module _ (one two : IsoDateTime) (one-stands : dateTimeLimits one ≡ given tt) 
   no-part-opposed unit =
       let a : ℕ = nanoseconds (one .time) in
       let b : ℕ = nanoseconds (two .time) in
-      let from = day-raised (epochDays (one .date)) (dayBias + 1) (omega (arith, ints, fine-day one one-fine)) in
-      let to = day-raised (epochDays (two .date)) (dayBias + 1) (omega (arith, ints, fine-day two two-fine)) in
+      let from = raised-is (epochDays (one .date)) (dayBias + 1) (omega (arith, ints, fine-day one one-fine, read-diff 0 (dayBias + 1))) in
+      let to = raised-is (epochDays (two .date)) (dayBias + 1) (omega (arith, ints, fine-day two two-fine, read-diff 0 (dayBias + 1))) in
       some-turn _ a _ b (below-day (one .time) (read-valid (one .time) (one-fine .time-valid))) (below-day (two .time) (read-valid (two .time) (two-fine .time-valid)))
       (λ day forward ns t. one-way unit _ day forward ns (placed one two one-fine two-fine _ a _ b day forward ns from to refl refl t))
 
@@ -202,15 +199,12 @@ then-not : {A B : Type 0} (first : Answer A) (step : A → Answer B) → (first 
 then-not (given a) step g h e = h a refl e
 then-not (refused n) step g h e = g (ap refused (number-is n 4 e))
 
-given-not : {A : Type 0} (a : A) → given a ≡ refused 4 → ⊥
-given-not a e = let z : _≡_ {A = ℕ} 0 1 = cc in omega arith
-
 limits-not : (r : IsoDateTime) → dateTimeLimits r ≡ refused 4 → ⊥
 unfolding dateTimeLimits
 limits-not r =
     check-not (isValidISODate (r .date)) 1 _ (λ e. omega arith)
     (check-not (isValidTime (r .time)) 1 _ (λ e. omega arith)
-    (check-not (isoDateTimeWithinLimits r) 3 _ (λ e. omega arith) (given-not {A = Unit {0}} tt)))
+    (check-not (isoDateTimeWithinLimits r) 3 _ (λ e. omega arith) (λ e. never {A = Unit {0}} tt 4 (sym e))))
 
 module _ (r : IsoDateTime) (unit : AnyUnit) (inc : ℕ) (mode : RoundingMode) where
   rounded-not : roundedTime (r .time) unit inc mode ≡ refused 4 → ⊥
@@ -218,7 +212,7 @@ module _ (r : IsoDateTime) (unit : AnyUnit) (inc : ℕ) (mode : RoundingMode) wh
   rounded-not =
       check-not (isValidTime (r .time)) 1 _ (λ e. omega arith)
       (check-not (ltb 0 (unitLength unit)) 5 _ (λ e. omega arith)
-      (check-not (validIncrement unit inc) 6 _ (λ e. omega arith) (given-not (roundTime (r .time) inc unit mode))))
+      (check-not (validIncrement unit inc) 6 _ (λ e. omega arith) (λ e. never (roundTime (r .time) inc unit mode) 4 (sym e))))
 
   abbrev limited : BalancedTime → IsoDate → Answer IsoDateTime
   limited b d = check (isoDateTimeWithinLimits (dateTime d (b .time))) 3 (given (dateTime d (b .time)))
@@ -239,7 +233,7 @@ module _ (r : IsoDateTime) (unit : AnyUnit) (inc : ℕ) (mode : RoundingMode) wh
 
   count-not : (k : ℤ) → balanced k ≡ true → dayToDate k ≡ refused 4 → ⊥
   unfolding dayToDate
-  count-not k b e = given-not (epochDaysToISODate k) (rw b at e)
+  count-not k b e = never (epochDaysToISODate k) 4 (sym (rw b at e))
 
   pub rounding-never-4 : roundDateTime r unit inc mode ≡ refused 4 → ⊥
   unfolding roundDateTime
@@ -249,4 +243,4 @@ module _ (r : IsoDateTime) (unit : AnyUnit) (inc : ℕ) (mode : RoundingMode) wh
       then-not (roundedTime (r .time) unit inc mode) on-the-day rounded-not
       (λ b f.
       then-not (dayToDate (epochDays (r .date) +ℤ b .days)) (limited b) (count-not _ (count-balanced b (sym e) (sym f)))
-      (λ d _. check-not (isoDateTimeWithinLimits (dateTime d (b .time))) 3 _ (λ z. omega arith) (given-not (dateTime d (b .time))))))
+      (λ d _. check-not (isoDateTimeWithinLimits (dateTime d (b .time))) 3 _ (λ z. omega arith) (λ z. never (dateTime d (b .time)) 4 (sym z)))))

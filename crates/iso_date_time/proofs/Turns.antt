@@ -10,13 +10,14 @@ use lib.IntN.{ℤ, pos, negℤ, natAbs, _+ℤ_, _-ℤ_, _*ℤ_}
 use lib.Signed.{ltZ}
 use Rattle.whole.specs.Whole.{_⊖_}
 use Rattle.whole.proofs.Laws.{up, dn, ints, read-add, read-neg, read-times, read-diff, fdiv-unique}
+use Rattle.whole.proofs.Tests.{and-false}
 use Rattle.iso_date.specs.Proposal.{date, epochDays, epochDaysToISODate, isValidISODate, constrainISODate}
 use Rattle.iso_date.specs.Inner.{dayBias}
 use Rattle.iso_date.specs.declared.IsoDate.{IsoDate}
 use Rattle.iso_date.proofs.Dates.{read-valid, back-valid}
 use Rattle.iso_time.specs.Proposal.{nanoseconds, inSeconds}
 use Rattle.iso_time.specs.Inner.{nsPerDay}
-use Rattle.iso_time.specs.declared.TimeDuration.{TimeDuration}
+use Rattle.iso_time.proofs.Checks.{duration as span, cut-below}
 use Rattle.date_duration.specs.Proposal.{duration}
 use Rattle.options.specs.declared.Unit.{Unit as AnyUnit}
 use Rattle.options.specs.declared.Unit.the-variants as U
@@ -32,14 +33,10 @@ use Rattle.iso_date_time.specs.declared.IsoDateTime.{IsoDateTime}
 
 -- ---- days and nanoseconds as seconds
 
-abbrev span : ℤ → ℤ → TimeDuration
-span s n = record { seconds = s; nanoseconds = n }
-
 -- cut towards zero, both parts have the direction
 cut : (forward : Bool) (n : ℕ) → inSeconds (directed forward n) ≡ span (directed forward (n / 1000000000)) (directed forward (n % 1000000000))
 cut true n = refl
-cut false zero = refl
-cut false (suc n) = refl
+cut false n = cut-below n
 
 pub in-seconds-is : (forward : Bool) (days ns : ℕ) (s n : ℤ) → s ≡ directed forward (86400 * days + ns / 1000000000) →
     n ≡ directed forward (ns % 1000000000) → span s n ≡ inSeconds (directed forward (nsPerDay * days + ns))
@@ -49,12 +46,6 @@ in-seconds-is forward days ns s n e f =
     rw (e, f) (sym (rw (q, r) at (cut forward (nsPerDay * days + ns))))
 
 -- ---- the day that moves
-
-none : (x y : Bool) → ((x && false) || (y && false)) ≡ false
-none true true = refl
-none true false = refl
-none false true = refl
-none false false = refl
 
 -- z is the span of the times, c the sign of the dates
 abbrev moves : ℤ → ℤ → ℤ
@@ -67,13 +58,13 @@ forth : (z : ℤ) → ltZ z (pos 0) ≡ false → ltZ (pos 0) z ≡ true → mov
 forth z e f = rw (e, f)
 
 stays-ahead : (z : ℤ) → ltZ z (pos 0) ≡ false → moves z (pos 1) ≡ pos 0
-stays-ahead z e = rw (e, none false (ltZ (pos 0) z))
+stays-ahead z e = rw (e, and-false (ltZ (pos 0) z))
 
 stays-behind : (z : ℤ) → ltZ (pos 0) z ≡ false → moves z (negℤ (pos 1)) ≡ pos 0
-stays-behind z e = rw (e, none (ltZ z (pos 0)) false)
+stays-behind z e = rw (e, and-false (ltZ z (pos 0)))
 
 stays : (z : ℤ) → moves z (pos 0) ≡ pos 0
-stays z = rw (none (ltZ z (pos 0)) (ltZ (pos 0) z))
+stays z = rw (and-false (ltZ z (pos 0)), and-false (ltZ (pos 0) z))
 
 module _ (p a q b : ℕ) where
   abbrev moved : ℤ

@@ -18,14 +18,6 @@ use Rattle.iso_time.specs.declared.TimeDuration.{TimeDuration}
 
 -- ---- the bound of a field to be balanced
 
-pub too-small : (z : ℤ) → z <ℤ negℤ (pos 9007199254740991) → false ≡ bounded z
-too-small (pos n) h = let f : ⊥ = omega (arith, ints) in absurd f
-too-small (negsuc n) h = sym (lt-leb (suc n) 9007199254740991 (omega (arith, ints)))
-
-pub small-enough : (z : ℤ) → negℤ (pos 9007199254740991) ≤ℤ z → leZ z (pos 9007199254740991) ≡ bounded z
-small-enough (pos n) h = refl
-small-enough (negsuc n) h = sym (le-leb (suc n) 9007199254740991 (omega (arith, ints)))
-
 pub all-within : (h m s ms us ns : ℤ) → allBounded h m s ms us ns ≡ true →
     (natAbs h ≤ 9007199254740991) × ((natAbs m ≤ 9007199254740991) × ((natAbs s ≤ 9007199254740991) ×
     ((natAbs ms ≤ 9007199254740991) × ((natAbs us ≤ 9007199254740991) × (natAbs ns ≤ 9007199254740991)))))
@@ -69,16 +61,16 @@ span-forward one two s n h e f =
     rw (z, e, f)
 
 -- a number below zero, cut towards zero
-cut-below : (n : ℕ) → 1 ≤ n → inSeconds (negℤ (pos n)) ≡ duration (negℤ (pos (n / 1000000000))) (negℤ (pos (n % 1000000000)))
-cut-below zero h = let f : ⊥ = omega arith in absurd f
-cut-below (suc n) h = refl
+pub cut-below : (n : ℕ) → inSeconds (negℤ (pos n)) ≡ duration (negℤ (pos (n / 1000000000))) (negℤ (pos (n % 1000000000)))
+cut-below zero = refl
+cut-below (suc n) = refl
 
 pub span-back : (one two : ℕ) (s n : ℤ) → two < one → s ≡ negℤ (pos ((one - two) / 1000000000)) → n ≡ negℤ (pos ((one - two) % 1000000000)) →
     duration s n ≡ inSeconds (pos two -ℤ pos one)
 span-back one two s n h e f =
     let z : pos two -ℤ pos one ≡ negℤ (pos (one - two)) =
     omega (arith, ints, read-add (pos two) (negℤ (pos one)), read-neg (pos one), read-neg (pos (one - two))) in
-    rw (z, e, f) (sym (cut-below (one - two) (omega arith)))
+    rw (z, e, f) (sym (cut-below (one - two)))
 
 pub difference-is : (one two : IsoTime) (n m : ℕ) (d : TimeDuration) → isValidTime one ≡ true → isValidTime two ≡ true → n ≡ nanoseconds one → m ≡ nanoseconds two →
     d ≡ inSeconds (pos m -ℤ pos n) → given d ≡ timeDifference one two

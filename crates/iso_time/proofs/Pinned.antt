@@ -1,6 +1,7 @@
 -- Two results of a call that its contract allows are one: an answer tells the case of the enum and what it carries. Assumes nothing.
-use mathlib.Core.Path.{_≡_, refl, sym, _∙_, ap}
+use mathlib.Core.Path.{_≡_, refl}
 use Rattle.refusal.specs.Answer.{Answer, given, refused}
+use Rattle.refusal.proofs.Answers.{one-result}
 use Rattle.iso_time.specs.Paper.{ofTime, ofBalance, ofSpan}
 use Rattle.iso_time.specs.declared.IsoTime.{IsoTime}
 use Rattle.iso_time.specs.declared.BalancedTime.{BalancedTime}
@@ -21,7 +22,7 @@ time-back (V0.Time x) = refl
 time-back (V0.Refused n) = refl
 
 pub one-time : (a : Answer IsoTime) (r s : TimeResult) → ofTime r ≡ a → ofTime s ≡ a → r ≡ s
-one-time a r s e f = sym (time-back r) ∙ ap to-time (e ∙ sym f) ∙ time-back s
+one-time = one-result ofTime to-time time-back
 
 abbrev to-balance : Answer BalancedTime → BalanceResult
 to-balance (given x) = V1.Balanced x
@@ -32,7 +33,7 @@ balance-back (V1.Balanced x) = refl
 balance-back (V1.Refused n) = refl
 
 pub one-balance : (a : Answer BalancedTime) (r s : BalanceResult) → ofBalance r ≡ a → ofBalance s ≡ a → r ≡ s
-one-balance a r s e f = sym (balance-back r) ∙ ap to-balance (e ∙ sym f) ∙ balance-back s
+one-balance = one-result ofBalance to-balance balance-back
 
 abbrev to-span : Answer TimeDuration → SpanResult
 to-span (given x) = V2.Span x
@@ -43,4 +44,4 @@ span-back (V2.Span x) = refl
 span-back (V2.Refused n) = refl
 
 pub one-span : (a : Answer TimeDuration) (r s : SpanResult) → ofSpan r ≡ a → ofSpan s ≡ a → r ≡ s
-one-span a r s e f = sym (span-back r) ∙ ap to-span (e ∙ sym f) ∙ span-back s
+one-span = one-result ofSpan to-span span-back

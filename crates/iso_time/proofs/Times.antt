@@ -7,7 +7,7 @@ use mathlib.Core.Bool.{true}
 use borrow.Author.Tests.{leb-true, le-leb}
 use lib.IntN.{ℤ, pos, negℤ, _+ℤ_, _-ℤ_, _*ℤ_}
 use Rattle.whole.specs.Whole.{_⊖_, fdiv, fmod}
-use Rattle.whole.proofs.Laws.{parts, whole, ints, ⊖-add, fdiv-fmod, fdiv-unique, fmod-lt, quotient, of-pos, read-add, read-neg}
+use Rattle.whole.proofs.Laws.{parts, whole, ints, ⊖-sum, fdiv-fmod, fdiv-unique, fmod-lt, quotient, of-pos, read-add, read-neg}
 use Rattle.whole.proofs.Tests.{both}
 use Rattle.iso_time.specs.Proposal.{time, isValidTime, balanced, balanceTime, nanoseconds}
 use Rattle.iso_time.specs.Inner.{fieldBias, nsPerDay}
@@ -91,10 +91,6 @@ stage z n k d p e =
     fdiv-unique z ((n / d) ⊖ k) d (n % d) (mod-lt n p)
     (e ∙ sym (rw (of-pos d, of-pos (n % d)) (simp whole (omega (arith, div-add-mod n d)))))
 
--- the next field with what is carried into it
-carried : (x y : ℤ) (a b j k : ℕ) → x ≡ a ⊖ j → y ≡ b ⊖ k → x +ℤ y ≡ (a + b) ⊖ (j + k)
-carried x y a b j k e f = rw (e, f) (⊖-add a j b k)
-
 module _ (h m s ms us ns : ℤ) (n0 a1 a2 a3 a4 a5 : ℕ)
     (e0 : ns ≡ n0 ⊖ fieldBias) (e1 : us ≡ a1 ⊖ fieldBias) (e2 : ms ≡ a2 ⊖ fieldBias) (e3 : s ≡ a3 ⊖ fieldBias)
     (e4 : m ≡ a4 ⊖ fieldBias) (e5 : h ≡ a5 ⊖ fieldBias) where
@@ -111,15 +107,15 @@ module _ (h m s ms us ns : ℤ) (n0 a1 a2 a3 a4 a5 : ℕ)
       let n4 : ℕ = a4 + n3 / 60 in
       let n5 : ℕ = a5 + n4 / 60 in
       let s0 = stage ns n0 10800000000000 1000 (omega arith) e0 in
-      let s1 = stage (us +ℤ fdiv ns 1000) n1 10810800000000 1000 (omega arith) (carried us (fdiv ns 1000) a1 (n0 / 1000) fieldBias 10800000000000 e1 (s0 .0)) in
+      let s1 = stage (us +ℤ fdiv ns 1000) n1 10810800000000 1000 (omega arith) (⊖-sum us (fdiv ns 1000) a1 fieldBias (n0 / 1000) 10800000000000 e1 (s0 .0)) in
       let us′ : ℤ = us +ℤ fdiv ns 1000 in
-      let s2 = stage (ms +ℤ fdiv us′ 1000) n2 10810810800000 1000 (omega arith) (carried ms (fdiv us′ 1000) a2 (n1 / 1000) fieldBias 10810800000000 e2 (s1 .0)) in
+      let s2 = stage (ms +ℤ fdiv us′ 1000) n2 10810810800000 1000 (omega arith) (⊖-sum ms (fdiv us′ 1000) a2 fieldBias (n1 / 1000) 10810800000000 e2 (s1 .0)) in
       let ms′ : ℤ = ms +ℤ fdiv us′ 1000 in
-      let s3 = stage (s +ℤ fdiv ms′ 1000) n3 180180180180000 60 (omega arith) (carried s (fdiv ms′ 1000) a3 (n2 / 1000) fieldBias 10810810800000 e3 (s2 .0)) in
+      let s3 = stage (s +ℤ fdiv ms′ 1000) n3 180180180180000 60 (omega arith) (⊖-sum s (fdiv ms′ 1000) a3 fieldBias (n2 / 1000) 10810810800000 e3 (s2 .0)) in
       let s′ : ℤ = s +ℤ fdiv ms′ 1000 in
-      let s4 = stage (m +ℤ fdiv s′ 60) n4 183003003003000 60 (omega arith) (carried m (fdiv s′ 60) a4 (n3 / 60) fieldBias 180180180180000 e4 (s3 .0)) in
+      let s4 = stage (m +ℤ fdiv s′ 60) n4 183003003003000 60 (omega arith) (⊖-sum m (fdiv s′ 60) a4 fieldBias (n3 / 60) 180180180180000 e4 (s3 .0)) in
       let m′ : ℤ = m +ℤ fdiv s′ 60 in
-      let s5 = stage (h +ℤ fdiv m′ 60) n5 457625125125125 24 (omega arith) (carried h (fdiv m′ 60) a5 (n4 / 60) fieldBias 183003003003000 e5 (s4 .0)) in
+      let s5 = stage (h +ℤ fdiv m′ 60) n5 457625125125125 24 (omega arith) (⊖-sum h (fdiv m′ 60) a5 fieldBias (n4 / 60) 183003003003000 e5 (s4 .0)) in
       ap₂ balanced (e ∙ sym (s5 .0)) (time-eq _ _ _ _ _ _ _ _ _ _ _ _ (sym (s5 .1)) (sym (s4 .1)) (sym (s3 .1)) (sym (s2 .1)) (sym (s1 .1)) (sym (s0 .1)))
 
 -- ---- balancing is inverse to flattening: the exact nanoseconds stay as they are, and no other carry and time have them

@@ -1,7 +1,8 @@
 -- Two results of a call that its contract allows are one: an answer tells the case of the enum and what it carries. Assumes nothing.
 use lib.IntN.{ℤ}
-use mathlib.Core.Path.{_≡_, refl, sym, _∙_, ap}
+use mathlib.Core.Path.{_≡_, refl}
 use Rattle.refusal.specs.Answer.{Answer, given, refused}
+use Rattle.refusal.proofs.Answers.{one-result}
 use Rattle.rounding.specs.Paper.{ofRounded}
 use Rattle.rounding.specs.declared.Rounded.{Rounded}
 use Rattle.rounding.specs.declared.Rounded.the-variants as V0
@@ -15,4 +16,4 @@ number-back (V0.Number x) = refl
 number-back (V0.Refused n) = refl
 
 pub one-number : (a : Answer ℤ) (r s : Rounded) → ofRounded r ≡ a → ofRounded s ≡ a → r ≡ s
-one-number a r s e f = sym (number-back r) ∙ ap to-number (e ∙ sym f) ∙ number-back s
+one-number = one-result ofRounded to-number number-back

@@ -13,7 +13,8 @@ use lib.IntN.{ℤ, pos, negsuc, negℤ, negℤ-negℤ, _+ℤ_, _*ℤ_}
 use lib.Signed.{ltZ}
 use Rattle.refusal.specs.Answer.{given, refused, check}
 use Rattle.whole.specs.Whole.{_⊖_, fdiv, fmod}
-use Rattle.whole.proofs.Laws.{up, split, whole, ints, fdiv-unique, read-add, read-neg}
+use Rattle.whole.proofs.Laws.{up, split, whole, ints, fdiv-unique, read-add, read-neg, add-none}
+use Rattle.whole.proofs.Tests.{clash}
 use Rattle.rounding.specs.Proposal.{getUnsignedRoundingMode, applyRule, applyUnsignedRoundingMode, roundQuotient, roundNumberToIncrement, roundNumberToIncrementAsIfPositive}
 use Rattle.rounding.specs.Paper.{inSigned64, rounded, roundNumber, roundNumberAsIfPositive}
 use Rattle.rounding.specs.Inner.{modeRow, signColumn, upBy, takesUp, sized, roundedSize, roundedBelow, AtMost, positiveSize, negativeSize}
@@ -80,9 +81,6 @@ module _ (rule : UnsignedRoundingMode) (odd : Bool) (d1 d2 : ℕ) where
   unfolding takesUp
   takes-by e = rw (ne-eqb d1 0 e)
 
-plus-none : (z : ℤ) → z +ℤ pos 0 ≡ z
-plus-none z = omega (arith, ints, read-add z (pos 0))
-
 -- the proposal's choice is r1, or the one above where that is taken
 module _ (r1 : ℤ) (d1 d2 : ℕ) where
   abbrev odd : Bool
@@ -94,15 +92,15 @@ module _ (r1 : ℤ) (d1 d2 : ℕ) where
   -- by which of the two is nearer, and by the parity of r1 where that matters
   nearer-lower : d1 < d2 → (rule : UnsignedRoundingMode) (even : Bool) → eqb (fmod r1 2) 0 ≡ even → applyRule rule r1 d1 d2 ≡ chosen (upBy rule odd d1 d2)
   nearer-lower h U.Infinity even s = refl
-  nearer-lower h U.Zero even s = sym (plus-none r1)
-  nearer-lower h U.HalfZero even s = simp (lt-ltb d1 d2 h, le-ltb d2 d1 (omega arith)) (sym (plus-none r1))
-  nearer-lower h U.HalfInfinity even s = simp (lt-ltb d1 d2 h, lt-leb d2 d1 h) (sym (plus-none r1))
-  nearer-lower h U.HalfEven true s = simp (s, lt-ltb d1 d2 h, le-ltb d2 d1 (omega arith)) (sym (plus-none r1))
-  nearer-lower h U.HalfEven false s = simp (s, lt-ltb d1 d2 h, lt-leb d2 d1 h) (sym (plus-none r1))
+  nearer-lower h U.Zero even s = sym (add-none r1)
+  nearer-lower h U.HalfZero even s = simp (lt-ltb d1 d2 h, le-ltb d2 d1 (omega arith)) (sym (add-none r1))
+  nearer-lower h U.HalfInfinity even s = simp (lt-ltb d1 d2 h, lt-leb d2 d1 h) (sym (add-none r1))
+  nearer-lower h U.HalfEven true s = simp (s, lt-ltb d1 d2 h, le-ltb d2 d1 (omega arith)) (sym (add-none r1))
+  nearer-lower h U.HalfEven false s = simp (s, lt-ltb d1 d2 h, lt-leb d2 d1 h) (sym (add-none r1))
 
   nearer-upper : d2 < d1 → (rule : UnsignedRoundingMode) (even : Bool) → eqb (fmod r1 2) 0 ≡ even → applyRule rule r1 d1 d2 ≡ chosen (upBy rule odd d1 d2)
   nearer-upper h U.Infinity even s = refl
-  nearer-upper h U.Zero even s = sym (plus-none r1)
+  nearer-upper h U.Zero even s = sym (add-none r1)
   nearer-upper h U.HalfZero even s = simp (le-ltb d1 d2 (omega arith), lt-ltb d2 d1 h)
   nearer-upper h U.HalfInfinity even s = simp (le-ltb d1 d2 (omega arith), lt-ltb d2 d1 h, le-leb d2 d1 (omega arith))
   nearer-upper h U.HalfEven true s = simp (s, le-ltb d1 d2 (omega arith), lt-ltb d2 d1 h)
@@ -110,10 +108,10 @@ module _ (r1 : ℤ) (d1 d2 : ℕ) where
 
   at-middle : d1 ≡ d2 → (rule : UnsignedRoundingMode) (even : Bool) → eqb (fmod r1 2) 0 ≡ even → applyRule rule r1 d1 d2 ≡ chosen (upBy rule odd d1 d2)
   at-middle h U.Infinity even s = refl
-  at-middle h U.Zero even s = sym (plus-none r1)
-  at-middle h U.HalfZero even s = simp (le-ltb d1 d2 (omega arith), le-ltb d2 d1 (omega arith)) (sym (plus-none r1))
+  at-middle h U.Zero even s = sym (add-none r1)
+  at-middle h U.HalfZero even s = simp (le-ltb d1 d2 (omega arith), le-ltb d2 d1 (omega arith)) (sym (add-none r1))
   at-middle h U.HalfInfinity even s = simp (le-ltb d1 d2 (omega arith), le-ltb d2 d1 (omega arith), le-leb d2 d1 (omega arith))
-  at-middle h U.HalfEven true s = simp (s, le-ltb d1 d2 (omega arith), le-ltb d2 d1 (omega arith)) (sym (plus-none r1))
+  at-middle h U.HalfEven true s = simp (s, le-ltb d1 d2 (omega arith), le-ltb d2 d1 (omega arith)) (sym (add-none r1))
   at-middle h U.HalfEven false s = simp (s, le-ltb d1 d2 (omega arith), le-ltb d2 d1 (omega arith), le-leb d2 d1 (omega arith))
 
   by-rule : (rule : UnsignedRoundingMode) → applyRule rule r1 d1 d2 ≡ chosen (upBy rule odd d1 d2)
@@ -127,7 +125,7 @@ module _ (r1 : ℤ) (d1 d2 : ℕ) where
   applied rule = go (eqb d1 0) refl
     where
       go : (t : Bool) → eqb d1 0 ≡ t → applyUnsignedRoundingMode rule r1 d1 d2 ≡ chosen (takesUp rule odd d1 d2)
-      go true e = rw e (sym (plus-none r1))
+      go true e = rw e (sym (add-none r1))
       go false e = rw e (by-rule rule)
 
 -- ---- a size: its lower multiple and what is left
@@ -157,9 +155,6 @@ up-times q step false = omega arith
 neg-times : (n step : ℕ) → negℤ (pos n) *ℤ pos step ≡ negℤ (pos (n * step))
 neg-times n step = simp whole (omega arith)
 
-true-false : true ≡ false → ⊥
-true-false e = let z : _≡_ {A = ℕ} 0 1 = ap (λ (b : Bool). cond b 0 1) e in omega arith
-
 module _ (m step : ℕ) (rule : UnsignedRoundingMode) (p : 0 < step) where
   -- the quotient that comes out is the floor, or one more
   size-quotient : (q : ℕ) × ((roundQuotient (pos m) step rule ≡ pos q) × (q * step ≡ roundedSize m step rule))
@@ -183,7 +178,7 @@ module _ (m step : ℕ) (rule : UnsignedRoundingMode) (p : 0 < step) where
       go true e =
           let some : m / step * step < m =
           ⊎-elim (λ h. h)
-          (λ h. absurd (true-false (sym e ∙ takes-none rule (eqb (m / step % 2) 1) (m - m / step * step) (step - (m - m / step * step)) (omega (arith, h)))))
+          (λ h. clash _ e (takes-none rule (eqb (m / step % 2) 1) (m - m / step * step) (step - (m - m / step * step)) (omega (arith, h))))
           (split (m / step * step) m) in
           rw e (omega arith, omega (arith, lower-le m step p, left-lt m step p))
 
@@ -229,7 +224,7 @@ module _ (m step : ℕ) (rule : UnsignedRoundingMode) (p : 0 < step) where
       let z : ℤ = negℤ (pos (m / step)) in
       let f = fdiv-unique (negℤ (pos m)) z step 0 p (below-exact (m / step) step m h) in
       rw (f .0, f .1)
-      (rw (applied z 0 (step - 0) rule, takes-none rule (not (eqb (fmod z 2) 0)) 0 (step - 0) refl, plus-none z)
+      (rw (applied z 0 (step - 0) rule, takes-none rule (not (eqb (fmod z 2) 0)) 0 (step - 0) refl, add-none z)
       (neg-times (m / step) step ∙ ap (λ (n : ℕ). negℤ (pos n)) (sym h)))
 
   rest-below : (m - m / step * step ≡ 0 → ⊥) → roundQuotient (negℤ (pos m)) step rule *ℤ pos step ≡

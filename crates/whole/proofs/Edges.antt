@@ -12,7 +12,7 @@ use lib.Signed.{ltZ, _≤ℤ_, _<ℤ_, nonNeg, yes-nonNeg, pos-natAbs}
 use mir.Syntax.{w32, w64}
 use mir.Val.{SFits, Fits}
 use Rattle.whole.specs.Whole.{_⊖_, fdiv, fmod, clampZ}
-use Rattle.whole.proofs.Laws.{up, ints, whole, read-add, read-diff, read-neg, range-of}
+use Rattle.whole.proofs.Laws.{up, ints, whole, read-add, read-diff, read-neg, range-of, size-of}
 
 pub nat-of : (z : ℤ) → pos 0 ≤ℤ z → natAbs z ≡ up z
 nat-of (pos n) h = refl
@@ -41,6 +41,13 @@ module _ (x : ℤ) (k : ℕ) (low : (0 ⊖ k) ≤ℤ x) where
   pub raised-top : (n : ℕ) → x <ℤ (n ⊖ k) → natAbs (x +ℤ pos k) < n
   raised-top n h =
       omega (arith, ints, read-add x (pos k), read-diff 0 k, read-diff n k, nat-of (x +ℤ pos k) raised-low, range-of (x +ℤ pos k))
+
+-- a number of a bounded size has room, and stays near k
+pub raise-room : (z : ℤ) (k : ℕ) → natAbs z < k → k < 2 ^ 62 → (k < 2 ^ 63) × (((0 ⊖ k) ≤ℤ z) × (z <ℤ ((2 ^ 63) ⊖ k)))
+raise-room z k h l = omega (arith, ints, size-of z, read-diff 0 k, read-diff (2 ^ 63) k)
+
+pub raised-within : (z : ℤ) (r k n : ℕ) → z ≡ r ⊖ k → natAbs z < n → n ≤ k → (k < r + n) × (r < k + n)
+raised-within z r k n e h l = omega (arith, ints, size-of z, read-diff r k)
 
 -- an i32 lies within 2^31 of 0
 pub low32 : (y : ℤ) (k : ℕ) → SFits w32 y → 2 ^ 31 ≤ k → (0 ⊖ k) ≤ℤ y

@@ -82,6 +82,9 @@ sum-parts (negsuc a) (negsuc b) = of-negsuc (suc (a + b)) ∙ ⊖-same 0 (suc (s
 pub ⊖-add : (a b c d : ℕ) → (a ⊖ b) +ℤ (c ⊖ d) ≡ (a + c) ⊖ (b + d)
 ⊖-add a b c d = sum-parts (a ⊖ b) (c ⊖ d) ∙ ⊖-same _ _ _ _ (omega (arith, read-diff a b, read-diff c d))
 
+pub ⊖-sum : (x y : ℤ) (a b c d : ℕ) → x ≡ a ⊖ b → y ≡ c ⊖ d → x +ℤ y ≡ (a + c) ⊖ (b + d)
+⊖-sum x y a b c d e f = rw (e, f) (⊖-add a b c d)
+
 -- written with a numeral, such a difference computes, and `simp` does not see it: cite this instead
 pub less-one : (m : ℕ) → 1 ≤ m → pos m -ℤ pos 1 ≡ pos (m - 1)
 unfolding _⊖_
@@ -315,6 +318,10 @@ pub size-of : (z : ℤ) → natAbs z ≡ up z + dn z
 size-of (pos n) = omega arith
 size-of (negsuc n) = omega arith
 
+pub size-neg : (n : ℕ) → natAbs (negℤ (pos n)) ≡ n
+size-neg zero = refl
+size-neg (suc n) = refl
+
 pub bits-eq : (w : Width) (x y : ℤ) → SFits w x → SFits w y → ofZ w x ≡ ofZ w y → x ≡ y
 bits-eq w x y f g e = sym (toZ-ofZ f) ∙ ap (toZ w) e ∙ toZ-ofZ g
 
@@ -367,3 +374,24 @@ natAbs-⊖ a b =
 pub ruleset whole = (add-zero, zero-add, neg-pos, of-pos, of-negsuc, ⊖-add, ⊖-neg, ⊖-times, fdiv-⊖, fmod-⊖, ltZ-⊖, leZ-⊖, nonNeg-⊖, natAbs-⊖, ⊖-eq, ⊖-le, ⊖-lt, ⊖-fits)
 
 pub ruleset ints = (show-le-true, show-lt-true, show-le-false, show-lt-false, read-le, read-lt, show-le, show-lt, read-eq, show-eq, read-lt-true, read-lt-false, read-le-true, read-le-false, read-back)
+
+-- ---- what they give
+
+pub add-none : (z : ℤ) → z +ℤ pos 0 ≡ z
+add-none z = omega (arith, ints, read-add z (pos 0))
+
+-- one test on two pairs: what it says of the one it says of the other
+pub le-by-test : (p q x y : ℤ) → ltZ y x ≡ ltZ q p → p ≤ℤ q → x ≤ℤ y
+le-by-test p q x y e h = let f : ltZ q p ≡ false = omega (arith, ints) in let g : ltZ y x ≡ false = e ∙ f in omega (arith, ints)
+
+-- a size within k is a number from -k to k
+module _ (z : ℤ) (k : ℕ) where
+  pub size-past : z <ℤ negℤ (pos k) → leb (natAbs z) k ≡ false
+  size-past h = lt-leb (natAbs z) k (omega (arith, ints, size-of z, range-of z, read-neg (pos k)))
+
+  pub size-decides : negℤ (pos k) ≤ℤ z → leZ z (pos k) ≡ leb (natAbs z) k
+  size-decides h =
+      ⊎-elim
+      (λ l. let t : leZ z (pos k) ≡ false = omega (arith, ints, size-of z, range-of z, read-neg (pos k)) in t ∙ sym (lt-leb (natAbs z) k l))
+      (λ l. let t : leZ z (pos k) ≡ true = omega (arith, ints, size-of z, range-of z) in t ∙ sym (le-leb (natAbs z) k l))
+      (split k (natAbs z))

@@ -4,9 +4,13 @@ use native.Mathlib.Omega.{arith}
 use mathlib.Core.Path.{_≡_, refl}
 use mathlib.Core.Bool.{Bool, true, false, _&&_, _||_}
 
+-- no test comes out both ways
+pub clash : {A : Type 0} (a : Bool) → a ≡ true → a ≡ false → A
+clash a e f = let z : _≡_ {A = ℕ} 0 1 = cc in let n : ⊥ = omega arith in absurd n
+
 pub both : (a b : Bool) → (a && b) ≡ true → (a ≡ true) × (b ≡ true)
 both true b e = (refl, e)
-both false b e = let z : _≡_ {A = ℕ} 0 1 = cc in let f : ⊥ = omega arith in absurd f
+both false b e = clash false e refl
 
 -- all must hold: the first that fails decides, one that passes leaves it to the rest
 pub fails : (a b : Bool) → a ≡ false → false ≡ (a && b)
@@ -21,3 +25,12 @@ holds a b e = rw e
 
 pub goes-on : (a b : Bool) → a ≡ false → b ≡ (a || b)
 goes-on a b e = rw e
+
+-- whatever stands before them
+pub and-false : (a : Bool) → (a && false) ≡ false
+and-false true = refl
+and-false false = refl
+
+pub or-true : (a : Bool) → (a || true) ≡ true
+or-true true = refl
+or-true false = refl

@@ -1,13 +1,13 @@
 -- Each part of a valid duration turned.
 use borrow.Author.Needs.{needs}
 use mathlib.Core.Path.{_≡_, sym, _∙_, ap}
+use mathlib.Core.Bool.{true}
 use borrow.Author.Tests.{not-true, not-false}
-use mir.Facts.{toZ-ofZ}
-use mir.Syntax.{w64}
-use mir.Val.{toZ, ofZ}
+use lib.IntN.{negℤ}
 use Rattle.refusal.specs.Answer.{given}
+use Rattle.date_duration.specs.Proposal.{isValidDuration}
 use Rattle.date_duration.specs.Paper.{durationNegated}
-use Rattle.date_duration.proofs.Durations.{turnable, same-parts}
+use Rattle.date_duration.proofs.Durations.{turnable, part-is, same-parts}
 use Rattle.date_duration.proofs.DateDuration.negated.Statement.{statement}
 use Rattle.date_duration.proofs.DateDuration.negated.Tie as tie
 
@@ -18,56 +18,33 @@ returns : tie.Need-returns
 unfolding durationNegated
 returns c = rw (sym (c .before .is-valid .ensures) ∙ not-true _ (c .if1 .taken))
 
+is-valid : (c : tie.Else1) → isValidDuration (c .before .before .args .self) ≡ true
+is-valid c = sym (c .before .is-valid .ensures) ∙ not-false _ (c .if1 .left)
+
 turned-requires : tie.Need-turned-requires
-turned-requires c κs =
-    let d = c .before .before .before .args .self in
-    let t = turnable d (sym (c .before .before .is-valid .ensures) ∙ not-false _ (c .before .if1 .left)) in
-    let back : toZ w64 (ofZ w64 (d .years)) ≡ d .years = toZ-ofZ (record { sfits = c .struct-told .given .0 .1 }) in
-    rw back (t .years-small)
+turned-requires c κs = turnable _ (is-valid (c .before)) .years-small (record { sfits = c .struct-told .given .0 .1 })
 
 turned-requires-2 : tie.Need-turned-requires-2
-turned-requires-2 c κs =
-    let d = c .before .before .before .before .before .args .self in
-    let t = turnable d (sym (c .before .before .before .before .is-valid .ensures) ∙ not-false _ (c .before .before .before .if1 .left)) in
-    let back : toZ w64 (ofZ w64 (d .months)) ≡ d .months = toZ-ofZ (record { sfits = c .struct-told2 .given .1 .0 .1 }) in
-    rw back (t .months-small)
+turned-requires-2 c κs = turnable _ (is-valid (c .before .before .before)) .months-small (record { sfits = c .struct-told2 .given .1 .0 .1 })
 
 turned-requires-3 : tie.Need-turned-requires-3
-turned-requires-3 c κs =
-    let d = c .before .before .before .before .before .before .before .args .self in
-    let t = turnable d (sym (c .before .before .before .before .before .before .is-valid .ensures) ∙ not-false _ (c .before .before .before .before .before .if1 .left)) in
-    let back : toZ w64 (ofZ w64 (d .weeks)) ≡ d .weeks = toZ-ofZ (record { sfits = c .struct-told3 .given .1 .1 .0 .1 }) in
-    rw back (t .weeks-small)
+turned-requires-3 c κs = turnable _ (is-valid (c .before .before .before .before .before)) .weeks-small (record { sfits = c .struct-told3 .given .1 .1 .0 .1 })
 
 turned-requires-4 : tie.Need-turned-requires-4
-turned-requires-4 c κs =
-    let d = c .before .before .before .before .before .before .before .before .before .args .self in
-    let t = turnable d (sym (c .before .before .before .before .before .before .before .before .is-valid .ensures) ∙ not-false _ (c .before .before .before .before .before .before .before .if1 .left)) in
-    let back : toZ w64 (ofZ w64 (d .days)) ≡ d .days = toZ-ofZ (record { sfits = c .struct-told4 .given .1 .1 .1 .0 .1 }) in
-    rw back (t .days-small)
+turned-requires-4 c κs = turnable _ (is-valid (c .before .before .before .before .before .before .before)) .days-small (record { sfits = c .struct-told4 .given .1 .1 .1 .0 .1 })
 
 returns-2 : tie.Need-returns-2
 unfolding durationNegated
 returns-2 c =
     let d = c .before .before .before .before .before .before .before .before .before .before .args .self in
-    let back-years : toZ w64 (ofZ w64 (d .years)) ≡ d .years = toZ-ofZ (record { sfits = c .before .struct-told4 .given .0 .1 }) in
-    let back-months : toZ w64 (ofZ w64 (d .months)) ≡ d .months = toZ-ofZ (record { sfits = c .before .struct-told4 .given .1 .0 .1 }) in
-    let back-weeks : toZ w64 (ofZ w64 (d .weeks)) ≡ d .weeks = toZ-ofZ (record { sfits = c .before .struct-told4 .given .1 .1 .0 .1 }) in
-    let back-days : toZ w64 (ofZ w64 (d .days)) ≡ d .days = toZ-ofZ (record { sfits = c .before .struct-told4 .given .1 .1 .1 .0 .1 }) in
-    let e0 = toZ-ofZ (record { sfits = c .before .before .before .before .before .before .turned .ok }) ∙ rw back-years at (c .before .before .before .before .before .before .turned .ensures) in
-    let e1 = toZ-ofZ (record { sfits = c .before .before .before .before .turned2 .ok }) ∙ rw back-months at (c .before .before .before .before .turned2 .ensures) in
-    let e2 = toZ-ofZ (record { sfits = c .before .before .turned3 .ok }) ∙ rw back-weeks at (c .before .before .turned3 .ensures) in
-    let e3 = toZ-ofZ (record { sfits = c .turned4 .ok }) ∙ rw back-days at (c .turned4 .ensures) in
-    rw (sym (c .before .before .before .before .before .before .before .before .before .is-valid .ensures) ∙ not-false _ (c .before .before .before .before .before .before .before .before .if1 .left)) (ap given (same-parts _ _ _ _ _ _ _ _ e0 e1 e2 e3))
+    let t = c .before .struct-told4 .given in
+    let e0 = part-is negℤ (d .years) _ (record { sfits = t .0 .1 }) (record { sfits = c .before .before .before .before .before .before .turned .ok }) (c .before .before .before .before .before .before .turned .ensures) in
+    let e1 = part-is negℤ (d .months) _ (record { sfits = t .1 .0 .1 }) (record { sfits = c .before .before .before .before .turned2 .ok }) (c .before .before .before .before .turned2 .ensures) in
+    let e2 = part-is negℤ (d .weeks) _ (record { sfits = t .1 .1 .0 .1 }) (record { sfits = c .before .before .turned3 .ok }) (c .before .before .turned3 .ensures) in
+    let e3 = part-is negℤ (d .days) _ (record { sfits = t .1 .1 .1 .0 .1 }) (record { sfits = c .turned4 .ok }) (c .turned4 .ensures) in
+    rw (is-valid (c .before .before .before .before .before .before .before .before)) (ap given (same-parts _ _ _ _ _ _ _ _ e0 e1 e2 e3))
 
 pub negated-spec : {M : Type 1} → statement M
 negated-spec =
     tie.close
-    (tie.spec
-    is-valid-requires
-    returns
-    turned-requires
-    turned-requires-2
-    turned-requires-3
-    turned-requires-4
-    returns-2)
+    (tie.spec is-valid-requires returns turned-requires turned-requires-2 turned-requires-3 turned-requires-4 returns-2)

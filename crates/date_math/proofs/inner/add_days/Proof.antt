@@ -4,7 +4,8 @@ use Prim.Native.Nat.{_<_, _^_}
 use native.Mathlib.Omega.{arith}
 use mathlib.Core.Path.{sym, _∙_}
 use mir.Facts.{toZ-ofZ}
-use Rattle.date_math.proofs.Steps.{raise-room, raised-within, days-sum}
+use Rattle.whole.proofs.Edges.{raise-room, raised-within}
+use Rattle.date_math.proofs.Steps.{days-sum}
 use Rattle.date_math.proofs.inner.add_days.Statement.{statement}
 use Rattle.date_math.proofs.inner.add_days.Tie as tie
 

@@ -7,7 +7,8 @@ use mir.Syntax.{w32}
 use mir.Val.{toZ, ofZ}
 use Rattle.iso_date.specs.Paper.{regulateDate}
 use Rattle.iso_date.specs.declared.IsoDate.{IsoDate}
-use Rattle.date_math.proofs.Steps.{raise-room, raised-within, moved-is}
+use Rattle.whole.proofs.Edges.{raise-room, raised-within}
+use Rattle.date_math.proofs.Steps.{moved-is}
 use Rattle.date_math.proofs.inner.moved.Statement.{statement}
 use Rattle.date_math.proofs.inner.moved.Tie as tie
 

@@ -4,8 +4,9 @@ use native.Mathlib.Omega.{arith}
 use Prim.Native.Nat.{_^_}
 use mathlib.Core.Path.{sym, _∙_}
 use mir.Facts.{toZ-ofZ}
-use Rattle.whole.proofs.Laws.{ints, read-diff}
-use Rattle.iso_date.proofs.Answers.{count-low, count-high, count-sum, carried-low, carried-high, carried-sum, carry-low, carry-high, carry-raised, day-raised}
+use Rattle.whole.proofs.Laws.{ints, ⊖-sum, read-diff}
+use Rattle.whole.proofs.Edges.{raise-room, raised-within}
+use Rattle.iso_date.proofs.Answers.{count-low, count-high, count-sum, carried-low, carried-high, day-raised}
 use Rattle.iso_date.proofs.inner.balance_sum.Statement.{statement}
 use Rattle.iso_date.proofs.inner.balance_sum.Tie as tie
 
@@ -48,7 +49,7 @@ raise-requires c κs =
 raise-requires-2 : tie.Need-raise-requires-2
 raise-requires-2 c κs =
     let s = c .before .before .before .before .before .before .before in
-    rw (toZ-ofZ (s .fits .carry)) (omega arith, (carry-low (s .args .carry) (s .pre), carry-high (s .args .carry) (s .pre)))
+    rw (toZ-ofZ (s .fits .carry)) (raise-room _ _ (s .pre) (omega arith))
 
 add-sum : tie.Need-add-sum
 add-sum c = search needs
@@ -56,7 +57,7 @@ add-sum c = search needs
 add-sum-2 : tie.Need-add-sum-2
 add-sum-2 c =
     let s = c .before .before .before .before .before .before .before .before in
-    let carry = carry-raised (s .args .carry) (s .pre) _ (sym (toZ-ofZ (s .fits .carry)) ∙ c .raise2 .ensures .0) in
+    let carry = raised-within _ _ _ _ (sym (toZ-ofZ (s .fits .carry)) ∙ c .raise2 .ensures .0) (s .pre) (omega arith) in
     let day = day-raised (s .args .day) _ (omega (arith, ints)) (sym (toZ-ofZ (s .fits .day)) ∙ c .before .raise .ensures .0) in
     omega (arith, carry, day, c .before .before .before .before .month-start .ensures)
 
@@ -72,7 +73,7 @@ add-lower-3 c = search needs
 lower-requires : tie.Need-lower-requires
 lower-requires c κs =
     let s = c .before .before .before .before .before .before .before .before in
-    let carry = carry-raised (s .args .carry) (s .pre) _ (sym (toZ-ofZ (s .fits .carry)) ∙ c .raise2 .ensures .0) in
+    let carry = raised-within _ _ _ _ (sym (toZ-ofZ (s .fits .carry)) ∙ c .raise2 .ensures .0) (s .pre) (omega arith) in
     let day = day-raised (s .args .day) _ (omega (arith, ints)) (sym (toZ-ofZ (s .fits .day)) ∙ c .before .raise .ensures .0) in
     omega (arith, carry, day, c .before .before .before .before .month-start .ensures)
 
@@ -89,7 +90,7 @@ returns-3 c =
     let d = sym (toZ-ofZ (s .fits .day)) ∙ c .before .before .before .raise .ensures .0 in
     let e = sym (toZ-ofZ (s .fits .carry)) ∙ c .before .before .raise2 .ensures .0 in
     c .from-epoch-days .ensures ∙
-    count-sum _ _ _ _ _ _ _ _ y m b (a .month-start .ensures .0) _ _ _ (carried-sum _ _ _ _ _ _ d e)
+    count-sum _ _ _ _ _ _ _ _ y m b (a .month-start .ensures .0) _ _ _ (⊖-sum _ _ _ _ _ _ d e)
     (toZ-ofZ (record { sfits = c .before .lower .ok }) ∙ c .before .lower .ensures)
 
 pub balance-sum-spec : {M : Type 1} → statement M

@@ -19,7 +19,7 @@ returns : tie.Need-returns
 returns c =
     let r = c .before .epoch-days in
     let f : SFits w64 (r .result) = record { sfits = r .ok } in
-    sym (limits-low (r .result) (omega (arith, ints))) ∙ ap (λ (z : ℤ). momentWithinLimits z noon) (r .ensures)
+    sym (limits-low (r .result) noon (omega arith) (omega (arith, ints))) ∙ ap (λ (z : ℤ). momentWithinLimits z noon) (r .ensures)
 
 returns-2 : tie.Need-returns-2
 returns-2 c =

@@ -2,7 +2,7 @@
 use borrow.Author.Needs.{needs}
 use mathlib.Core.Path.{sym, _∙_}
 use borrow.Author.Tests.{not-true, not-false}
-use Rattle.iso_date_time.proofs.Moments.{limits-date, limits-time, limits-out, limits-in}
+use Rattle.iso_date_time.proofs.Moments.{limits-date, limits-time, limits-out, limits-within}
 use Rattle.iso_date_time.proofs.IsoDateTime.check_within_limits.Statement.{statement}
 use Rattle.iso_date_time.proofs.IsoDateTime.check_within_limits.Tie as tie
 use Rattle.iso_date.proofs.IsoDate.is_valid.Reads as IsoDate-is-valid-reads
@@ -31,7 +31,7 @@ returns-3 : tie.Need-returns-3
 returns-3 c =
     let g = c .before .before in
     let e = g .before .before .before in
-    limits-in _ (sym (e .before .is-valid .ensures) ∙ not-false _ (e .if1 .left)) (sym (g .before .is-valid2 .ensures) ∙ not-false _ (g .if2 .left))
+    limits-within _ (sym (e .before .is-valid .ensures) ∙ not-false _ (e .if1 .left)) (sym (g .before .is-valid2 .ensures) ∙ not-false _ (g .if2 .left))
     (sym (c .before .within-limits .ensures) ∙ c .if3 .taken)
 
 returns-4 : tie.Need-returns-4

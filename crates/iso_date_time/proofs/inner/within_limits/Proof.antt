@@ -9,7 +9,8 @@ use Rattle.whole.proofs.Laws.{ints}
 use Rattle.iso_date.specs.Proposal.{momentWithinLimits}
 use Rattle.iso_time.specs.Proposal.{nanoseconds}
 use Rattle.iso_time.proofs.Times.{read-valid, below-day}
-use Rattle.iso_date_time.proofs.Moments.{before-all, after-all, between, first-day}
+use Rattle.iso_date.proofs.Answers.{limits-low, limits-high}
+use Rattle.iso_date_time.proofs.Moments.{between, first-day}
 use Rattle.iso_date_time.proofs.inner.within_limits.Statement.{statement}
 use Rattle.iso_date_time.proofs.inner.within_limits.Tie as tie
 
@@ -20,14 +21,14 @@ returns : tie.Need-returns
 returns c =
     let r = c .before .epoch-days in
     let f : SFits w64 (r .result) = record { sfits = r .ok } in
-    before-all (r .result) _ (below-day _ (read-valid _ (c .before .before .pre .1))) (omega (arith, ints)) ∙
+    sym (limits-low (r .result) _ (below-day _ (read-valid _ (c .before .before .pre .1))) (omega (arith, ints))) ∙
     ap (λ (z : ℤ). momentWithinLimits z (nanoseconds (c .before .before .args .time))) (r .ensures)
 
 returns-2 : tie.Need-returns-2
 returns-2 c =
     let r = c .before .before .epoch-days in
     let f : SFits w64 (r .result) = record { sfits = r .ok } in
-    after-all (r .result) _ (below-day _ (read-valid _ (c .before .before .before .pre .1))) (omega (arith, ints)) ∙
+    sym (limits-high (r .result) _ (below-day _ (read-valid _ (c .before .before .before .pre .1))) (omega (arith, ints))) ∙
     ap (λ (z : ℤ). momentWithinLimits z (nanoseconds (c .before .before .before .args .time))) (r .ensures)
 
 nanoseconds-of-requires : tie.Need-nanoseconds-of-requires
