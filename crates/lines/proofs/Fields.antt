@@ -19,7 +19,7 @@ some-of b true fs = zero-lt-suc (length fs)
 some-of b false [] = zero-lt-suc 0
 some-of b false (f ∷ fs) = zero-lt-suc (length fs)
 
-some-field : (s : List ℕ) → 0 < length (fields s)
+pub some-field : (s : List ℕ) → 0 < length (fields s)
 unfolding fields
 some-field [] = zero-lt-suc 0
 some-field (b ∷ bs) = some-of b (eqb b space) (fields bs)

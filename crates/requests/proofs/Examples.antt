@@ -19,7 +19,8 @@ use Rattle.date_math.specs.Inner.{placeOf, yearsIn, monthsIn, weeksIn}
 use Rattle.date_math.proofs.Theorems.{always-given}
 use Rattle.date_math.proofs.Until.{difference-is}
 use Rattle.options.specs.declared.Unit.the-variants as U
-use Rattle.requests.specs.Calls.{meaningOf, values, durationValues}
+use Rattle.replies.specs.Replies.{values, durationValues}
+use Rattle.requests.specs.Calls.{meaningOf}
 use Rattle.calls.specs.declared.Call.{Call}
 use Rattle.calls.specs.declared.Call.the-variants as C
 

@@ -1,75 +1,24 @@
 -- The calls, in the order of the protocol's table: the parameters' types and what is answered.
-use Prim.Native.Nat.{ℕ, _+_}
+use Prim.Native.Nat.{ℕ}
 use mathlib.Core.Bool.{cond}
 use mathlib.Core.List.{List, [], _∷_, _++_}
-use lib.Dec.{eqb}
 use lib.ListN.{getD, drop}
-use lib.IntN.{ℤ, pos, negℤ, natAbs}
-use Rattle.refusal.specs.Answer.{Answer, given, refused}
-use Rattle.lines.specs.Text.{fields, newline}
+use lib.IntN.{ℤ, pos}
+use Rattle.refusal.specs.Answer.{Answer, given}
+use Rattle.lines.specs.Text.{fields, newline, answerText, questionText}
 use Rattle.calls.specs.Names.{everyCall, callIn, isKnown}
 use Rattle.calls.specs.declared.Call.{Call}
 use Rattle.calls.specs.declared.Call.the-variants as C
-use Rattle.iso_date.specs.Proposal.{date}
 use Rattle.iso_date.specs.Paper.{monthLength, dateToDay, dayToDate, balanceYearMonth, regulateDate, makeDate, dateLimits, balanceDate}
-use Rattle.iso_date.specs.declared.IsoDate.{IsoDate}
-use Rattle.iso_date.specs.declared.YearMonth.{YearMonth}
-use Rattle.iso_time.specs.Proposal.{time}
 use Rattle.iso_time.specs.Paper.{regulateTime, balanceTimeFields, timeDifference, roundedTime}
-use Rattle.iso_time.specs.declared.IsoTime.{IsoTime}
-use Rattle.iso_time.specs.declared.BalancedTime.{BalancedTime}
-use Rattle.iso_time.specs.declared.TimeDuration.{TimeDuration}
 use Rattle.rounding.specs.Paper.{roundNumber, roundNumberAsIfPositive}
-use Rattle.rounding.specs.declared.RoundingMode.{RoundingMode}
-use Rattle.rounding.specs.declared.RoundingMode.the-variants as M
-use Rattle.date_duration.specs.Proposal.{duration}
 use Rattle.date_duration.specs.Paper.{newDuration, durationSign, durationAbs, durationNegated, durationAdjust}
-use Rattle.date_duration.specs.declared.DateDuration.{DateDuration}
-use Rattle.date_duration.specs.declared.Sign.{Sign}
-use Rattle.date_duration.specs.declared.Sign.the-variants as S
-use Rattle.date_duration.specs.declared.Part.{Part}
-use Rattle.date_duration.specs.declared.Part.the-variants as P
 use Rattle.date_math.specs.Paper.{dateSum, dateDifference}
-use Rattle.iso_date_time.specs.Proposal.{dateTime}
 use Rattle.iso_date_time.specs.Paper.{dateTimeLimits, balanceDateTime, roundDateTime, dateTimeDifference, fromInstant}
-use Rattle.iso_date_time.specs.declared.IsoDateTime.{IsoDateTime}
-use Rattle.iso_date_time.specs.declared.InternalDurationRecord.{InternalDurationRecord}
-use Rattle.options.specs.declared.Overflow.{Overflow}
-use Rattle.options.specs.declared.Overflow.the-variants.{Constrain, Reject}
-use Rattle.options.specs.declared.Unit.{Unit as TimeUnit}
-use Rattle.options.specs.declared.Unit.the-variants as U
-use Rattle.requests.specs.Protocol.{Kind, signed, unsigned, oneOf, arguments, Reply, question, replyWith, replyText}
-
--- ---- parameters
-
-abbrev pub dateKinds : List Kind
-dateKinds = signed 32 ∷ unsigned 8 ∷ unsigned 8 ∷ []
-
-abbrev pub overflowKind : Kind
-overflowKind = oneOf 2
-
-abbrev pub timeKinds : List Kind
-timeKinds = unsigned 8 ∷ unsigned 8 ∷ unsigned 8 ∷ unsigned 16 ∷ unsigned 16 ∷ unsigned 16 ∷ []
-
--- six fields that are to be balanced
-abbrev pub partsKinds : List Kind
-partsKinds = signed 64 ∷ signed 64 ∷ signed 64 ∷ signed 64 ∷ signed 64 ∷ signed 64 ∷ []
-
-abbrev pub dateTimeKinds : List Kind
-dateTimeKinds = dateKinds ++ timeKinds
-
-abbrev pub unitKind : Kind
-unitKind = oneOf 10
-
-abbrev pub modeKind : Kind
-modeKind = oneOf 9
-
-abbrev pub durationKinds : List Kind
-durationKinds = signed 64 ∷ signed 64 ∷ signed 64 ∷ signed 64 ∷ []
-
--- 0 kept, 1 given, and the number that is given
-abbrev pub choiceKinds : List Kind
-choiceKinds = oneOf 2 ∷ signed 64 ∷ []
+use Rattle.numbers.specs.Kinds.{Kind, signed, unsigned, Arguments, these, noArguments, arguments}
+use Rattle.numbers.specs.Meaning.{at, natAt}
+use Rattle.parameters.specs.Parameters.{dateKinds, timeKinds, partsKinds, dateTimeKinds, durationKinds, choiceKinds, overflowKind, unitKind, modeKind, dateAt, timeAt, dateTimeAt, durationAt, partAt, overflowOf, unitOf, modeOf}
+use Rattle.replies.specs.Replies.{Reply, question, answer, said, values, dateValues, yearMonthValues, timeValues, balancedValues, spanValues, durationValues, dateTimeValues, recordValues, signNumber}
 
 abbrev pub kindsOf : Call → List Kind
 kindsOf C.MonthLength = signed 32 ∷ unsigned 8 ∷ []
@@ -100,79 +49,7 @@ kindsOf C.DateTimeDifference = dateTimeKinds ++ (dateTimeKinds ++ (unitKind ∷ 
 kindsOf C.DateTimeFromInstant = signed 64 ∷ signed 64 ∷ signed 64 ∷ []
 kindsOf C.Unknown = []
 
--- ---- answers: the numbers of a request as the call's parameters, and an answer's values in their order
-
-abbrev pub at : List ℤ → ℕ → ℤ
-at zs i = getD zs i (pos 0)
-
-abbrev pub natAt : List ℤ → ℕ → ℕ
-natAt zs i = natAbs (at zs i)
-
-abbrev pub dateAt : List ℤ → ℕ → IsoDate
-dateAt zs i = date (at zs i) (natAt zs (i + 1)) (natAt zs (i + 2))
-
-abbrev pub overflowOf : ℤ → Overflow
-overflowOf z = cond (eqb (natAbs z) 0) Constrain Reject
-
-abbrev pub timeAt : List ℤ → ℕ → IsoTime
-timeAt zs i = time (natAt zs i) (natAt zs (i + 1)) (natAt zs (i + 2)) (natAt zs (i + 3)) (natAt zs (i + 4)) (natAt zs (i + 5))
-
-abbrev pub dateTimeAt : List ℤ → ℕ → IsoDateTime
-dateTimeAt zs i = dateTime (dateAt zs i) (timeAt zs (i + 3))
-
--- units and modes by their numbers, from 0
-abbrev pub units : List TimeUnit
-units = U.Year ∷ U.Month ∷ U.Week ∷ U.Day ∷ U.Hour ∷ U.Minute ∷ U.Second ∷ U.Millisecond ∷ U.Microsecond ∷ U.Nanosecond ∷ []
-
-abbrev pub modes : List RoundingMode
-modes = M.Ceil ∷ M.Floor ∷ M.Expand ∷ M.Trunc ∷ M.HalfCeil ∷ M.HalfFloor ∷ M.HalfExpand ∷ M.HalfTrunc ∷ M.HalfEven ∷ []
-
-abbrev pub unitOf : ℤ → TimeUnit
-unitOf z = getD units (natAbs z) U.Year
-
-abbrev pub modeOf : ℤ → RoundingMode
-modeOf z = getD modes (natAbs z) M.Ceil
-
-abbrev pub durationAt : List ℤ → ℕ → DateDuration
-durationAt zs i = duration (at zs i) (at zs (i + 1)) (at zs (i + 2)) (at zs (i + 3))
-
-abbrev pub partAt : List ℤ → ℕ → Part
-partAt zs i = cond (eqb (natAt zs i) 0) P.Kept (P.Given (at zs (i + 1)))
-
-abbrev pub values : {A : Type 0} → (A → List ℤ) → Answer A → Answer (List ℤ)
-values show (given a) = given (show a)
-values show (refused n) = refused n
-
-abbrev pub dateValues : IsoDate → List ℤ
-dateValues d = d .year ∷ pos (d .month) ∷ pos (d .day) ∷ []
-
-abbrev pub yearMonthValues : YearMonth → List ℤ
-yearMonthValues m = m .year ∷ pos (m .month) ∷ []
-
-abbrev pub timeValues : IsoTime → List ℤ
-timeValues t =
-    pos (t .hour) ∷ pos (t .minute) ∷ pos (t .second) ∷ pos (t .millisecond) ∷ pos (t .microsecond) ∷ pos (t .nanosecond) ∷ []
-
-abbrev pub balancedValues : BalancedTime → List ℤ
-balancedValues b = b .days ∷ timeValues (b .time)
-
-abbrev pub spanValues : TimeDuration → List ℤ
-spanValues d = d .seconds ∷ d .nanoseconds ∷ []
-
-abbrev pub durationValues : DateDuration → List ℤ
-durationValues d = d .years ∷ d .months ∷ d .weeks ∷ d .days ∷ []
-
-abbrev pub dateTimeValues : IsoDateTime → List ℤ
-dateTimeValues r = dateValues (r .date) ++ timeValues (r .time)
-
-abbrev pub recordValues : InternalDurationRecord → List ℤ
-recordValues d = durationValues (d .date) ++ spanValues (d .time)
-
-abbrev pub signNumber : Sign → ℤ
-signNumber S.Negative = negℤ (pos 1)
-signNumber S.Zero = pos 0
-signNumber S.Positive = pos 1
-
+-- what the numbers of a request are answered
 unfoldable pub meaningOf : Call → List ℤ → Answer (List ℤ)
 meaningOf C.MonthLength zs = values (λ n. pos n ∷ []) (monthLength (at zs 0) (natAt zs 1))
 meaningOf C.DateToDay zs = values (λ n. n ∷ []) (dateToDay (dateAt zs 0))
@@ -204,6 +81,14 @@ meaningOf C.DateTimeFromInstant zs = values dateTimeValues (fromInstant (at zs 0
 meaningOf C.Unknown zs = given []
 
 -- ---- the reply to a line
+
+abbrev pub replyWith : (List ℤ → Answer (List ℤ)) → Arguments → Reply
+replyWith meaning noArguments = question
+replyWith meaning (these zs) = said (meaning zs)
+
+abbrev pub replyText : Reply → List ℕ
+replyText question = questionText
+replyText (answer n vs) = answerText n vs
 
 unfoldable pub replyOf : Call → List (List ℕ) → Reply
 replyOf c numbers = cond (isKnown c) (replyWith (meaningOf c) (arguments (kindsOf c) numbers)) question

@@ -3,30 +3,15 @@ mod date_times;
 mod dates;
 mod durations;
 pub mod inner;
-mod read;
 mod sums;
 mod times;
-mod written;
 
 use calls::Call;
 use calls::call_named;
-pub use read::Byte;
-pub use read::Choice;
-pub use read::ChoiceFields;
-pub use read::DateFields;
-pub use read::DateTimeFields;
-pub use read::DurationFields;
-pub use read::Int;
-pub use read::ModeField;
-pub use read::OverflowField;
-pub use read::Parts;
-pub use read::PartsFields;
-pub use read::Short;
-pub use read::TimeFields;
-pub use read::UnitField;
-pub use written::Written;
+use replies::Written;
+use replies::inner::no_request;
 ghost use Rattle.requests.specs.Calls.{replyTo};
-ghost use Rattle.requests.specs.Meaning.{Says};
+ghost use Rattle.replies.specs.Meaning.{Says};
 
 // The reply to a line: an answer with its values, a refusal's number, or no request.
 pub fn reply_to(line: &[u8]) -> Written
@@ -60,6 +45,6 @@ pub fn reply_to(line: &[u8]) -> Written
         Call::RoundDateTime => date_times::round_datetime(line),
         Call::DateTimeDifference => date_times::datetime_difference(line),
         Call::DateTimeFromInstant => date_times::datetime_from_instant(line),
-        Call::Unknown => written::no_request(),
+        Call::Unknown => no_request(),
     }
 }

@@ -1,44 +1,32 @@
-// The calls on times and the number rounder: the fields of a request as the call's parameters, the call, and its answer as a reply.
-use crate::Written;
-use crate::read::ModeField;
-use crate::read::OverflowField;
-use crate::read::PartsFields;
-use crate::read::TimeFields;
-use crate::read::UnitField;
-use crate::read::mode_at;
-use crate::read::overflow_at;
-use crate::read::parts_at;
-use crate::read::time_at;
-use crate::read::unit_at;
-use crate::written::balance_reply;
-use crate::written::no_request;
-use crate::written::rounded_reply;
-use crate::written::span_reply;
-use crate::written::time_reply;
+// The calls on times and the number rounder: the numbers of a request as the call's parameters, the call, and its answer as a reply.
 use iso_time::IsoTime;
-use lines::Natural;
-use lines::Signed;
-use lines::field_count;
-use lines::natural_at;
-use lines::signed_at;
+use numbers::inner::long;
+use numbers::inner::numbers_of;
+use numbers::inner::word;
+use parameters::inner::mode;
+use parameters::inner::overflow;
+use parameters::inner::time;
+use parameters::inner::unit;
+use replies::Written;
+use replies::inner::balance_reply;
+use replies::inner::no_request;
+use replies::inner::rounded_reply;
+use replies::inner::span_reply;
+use replies::inner::time_reply;
 ghost use lib.ListN.{drop};
 ghost use Rattle.lines.specs.Text.{fields};
+ghost use Rattle.replies.specs.Meaning.{Says};
 ghost use Rattle.requests.specs.Calls.{replyOf};
-ghost use Rattle.requests.specs.Meaning.{Says};
 ghost use Rattle.calls.specs.declared.Call.the-variants.{RegulateTime, BalanceTime, TimeDifference, RoundNumber, RoundNumberAsIfPositive, RoundTime};
 
 pub fn regulate_time(line: &[u8]) -> Written
     ensures { λ r. ⌜ Says r (replyOf RegulateTime (drop 1 (fields (now (line .entry))))) ⌝ }
 {
-    if field_count(line) != 8 {
+    let n = numbers_of(line, b"bbbsssf");
+    if !n.known {
         return no_request();
     }
-    let TimeFields::Are(time) = time_at(line, 1) else {
-        return no_request();
-    };
-    let OverflowField::Is(overflow) = overflow_at(line, 7) else {
-        return no_request();
-    };
+    let time = time(n, 0);
     time_reply(IsoTime::new(
         time.hour,
         time.minute,
@@ -46,97 +34,65 @@ pub fn regulate_time(line: &[u8]) -> Written
         time.millisecond,
         time.microsecond,
         time.nanosecond,
-        overflow,
+        overflow(n, 6),
     ))
 }
 
 pub fn balance_time(line: &[u8]) -> Written
     ensures { λ r. ⌜ Says r (replyOf BalanceTime (drop 1 (fields (now (line .entry))))) ⌝ }
 {
-    if field_count(line) != 7 {
+    let n = numbers_of(line, b"llllll");
+    if !n.known {
         return no_request();
     }
-    let PartsFields::Are(parts) = parts_at(line, 1) else {
-        return no_request();
-    };
     balance_reply(IsoTime::balance(
-        parts.hour,
-        parts.minute,
-        parts.second,
-        parts.millisecond,
-        parts.microsecond,
-        parts.nanosecond,
+        long(n, 0),
+        long(n, 1),
+        long(n, 2),
+        long(n, 3),
+        long(n, 4),
+        long(n, 5),
     ))
 }
 
 pub fn time_difference(line: &[u8]) -> Written
     ensures { λ r. ⌜ Says r (replyOf TimeDifference (drop 1 (fields (now (line .entry))))) ⌝ }
 {
-    if field_count(line) != 13 {
+    let n = numbers_of(line, b"bbbsssbbbsss");
+    if !n.known {
         return no_request();
     }
-    let TimeFields::Are(one) = time_at(line, 1) else {
-        return no_request();
-    };
-    let TimeFields::Are(two) = time_at(line, 7) else {
-        return no_request();
-    };
-    span_reply(one.diff(two))
+    let one = time(n, 0);
+    span_reply(one.diff(time(n, 6)))
 }
 
 pub fn round_number(line: &[u8]) -> Written
     ensures { λ r. ⌜ Says r (replyOf RoundNumber (drop 1 (fields (now (line .entry))))) ⌝ }
 {
-    if field_count(line) != 4 {
+    let n = numbers_of(line, b"lwm");
+    if !n.known {
         return no_request();
     }
-    let Signed::Is(quantity) = signed_at(line, 1, i64::MIN, i64::MAX) else {
-        return no_request();
-    };
-    let Natural::Is(step) = natural_at(line, 2, u64::MAX) else {
-        return no_request();
-    };
-    let ModeField::Is(mode) = mode_at(line, 3) else {
-        return no_request();
-    };
-    rounded_reply(rounding::round(quantity, step, mode))
+    rounded_reply(rounding::round(long(n, 0), word(n, 1), mode(n, 2)))
 }
 
 pub fn round_number_as_if_positive(line: &[u8]) -> Written
     ensures { λ r. ⌜ Says r (replyOf RoundNumberAsIfPositive (drop 1 (fields (now (line .entry))))) ⌝ }
 {
-    if field_count(line) != 4 {
+    let n = numbers_of(line, b"lwm");
+    if !n.known {
         return no_request();
     }
-    let Signed::Is(quantity) = signed_at(line, 1, i64::MIN, i64::MAX) else {
-        return no_request();
-    };
-    let Natural::Is(step) = natural_at(line, 2, u64::MAX) else {
-        return no_request();
-    };
-    let ModeField::Is(mode) = mode_at(line, 3) else {
-        return no_request();
-    };
-    rounded_reply(rounding::round_as_if_positive(quantity, step, mode))
+    rounded_reply(rounding::round_as_if_positive(long(n, 0), word(n, 1), mode(n, 2)))
 }
 
 pub fn round_time(line: &[u8]) -> Written
     ensures { λ r. ⌜ Says r (replyOf RoundTime (drop 1 (fields (now (line .entry))))) ⌝ }
 {
-    if field_count(line) != 10 {
+    let n = numbers_of(line, b"bbbsssuwm");
+    if !n.known {
         return no_request();
     }
-    let TimeFields::Are(time) = time_at(line, 1) else {
-        return no_request();
-    };
-    let UnitField::Is(unit) = unit_at(line, 7) else {
-        return no_request();
-    };
-    let Natural::Is(increment) = natural_at(line, 8, u64::MAX) else {
-        return no_request();
-    };
-    let ModeField::Is(mode) = mode_at(line, 9) else {
-        return no_request();
-    };
-    balance_reply(time.round(unit, increment, mode))
+    let time = time(n, 0);
+    balance_reply(time.round(unit(n, 6), word(n, 7), mode(n, 8)))
 }

@@ -15,9 +15,10 @@ use Rattle.lines.proofs.Lengths.{spread, line-spread, first-spread, number-shor
 use Rattle.calls.specs.Names.{bytes, sameBytes, nameOf, callIn, everyCall, isKnown}
 use Rattle.calls.specs.declared.Call.{Call}
 use Rattle.calls.proofs.Names.{same-eq}
-use Rattle.requests.specs.Protocol.{Kind, Arguments, these, noArguments, also, arguments, question, replyWith, replyText}
-use Rattle.requests.specs.Calls.{kindsOf, meaningOf, replyOf, replyTo, responseTo}
-use Rattle.requests.proofs.Laws.{also-none}
+use Rattle.numbers.specs.Kinds.{Kind, Arguments, these, noArguments, also, arguments}
+use Rattle.numbers.proofs.Laws.{also-none}
+use Rattle.replies.specs.Replies.{question}
+use Rattle.requests.specs.Calls.{kindsOf, meaningOf, replyOf, replyTo, replyWith, replyText, responseTo}
 use Rattle.stream.specs.Stream.{lineRoom}
 
 -- ---- a request has few numbers

@@ -2,7 +2,8 @@
 use borrow.Author.Needs.{needs}
 use mathlib.Core.Path.{_∙_}
 use Rattle.calls.specs.declared.Call.the-variants.{MonthLength, DateToDay, DayToDate, BalanceYearMonth, RegulateDate, MakeDate, DateLimits, BalanceDate, RegulateTime, BalanceTime, TimeDifference, RoundNumber, RoundNumberAsIfPositive, RoundTime, DurationNew, DurationSign, DurationAbs, DurationNegated, DurationAdjust, DateSum, DateDifference, DateTimeLimits, BalanceDateTime, RoundDateTime, DateTimeDifference, DateTimeFromInstant, Unknown}
-use Rattle.requests.proofs.Laws.{says-as, reply-as, unknown-reply}
+use Rattle.requests.proofs.Laws.{reply-as, unknown-reply}
+use Rattle.replies.proofs.Laws.{says-as}
 use Rattle.requests.proofs.reply_to.Statement.{statement}
 use Rattle.requests.proofs.reply_to.Tie as tie
 

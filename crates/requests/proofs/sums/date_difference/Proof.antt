@@ -1,96 +1,52 @@
--- The count of fields, each field in turn, and the call; whatever fails is no request.
+-- The numbers of the request, the call with them as parameters, and the reply.
 use borrow.Author.Needs.{needs}
-use native.Mathlib.Omega.{arith}
-use mathlib.Core.Path.{refl, sym, _∙_, ap}
-use Rattle.date_duration.specs.declared.DateDuration.{DateDuration}
-use Rattle.date_math.specs.Paper.{dateDifference}
+use borrow.Author.Tests.{not-true, not-false}
+use mathlib.Core.Path.{refl, _∙_, ap}
+use mathlib.Core.List.{[], _∷_, _++_}
+use lib.ListN.{drop}
 use Rattle.refusal.specs.Answer.{Answer}
+use Rattle.date_duration.specs.declared.DateDuration.{DateDuration}
 use Rattle.lines.specs.Text.{fields}
-use Rattle.requests.specs.Protocol.{said}
-use Rattle.requests.specs.Calls.{dateKinds, durationValues, meaningOf, values}
-use Rattle.requests.specs.Meaning.{ofDateFields, ofUnitField}
-use Rattle.requests.proofs.Laws.{bad-reply, collect-end, collect-fails, collect-more, good-reply, group-fails, group-then, group-then-fails, no-reply, says-as, unit-back}
 use Rattle.calls.specs.declared.Call.the-variants.{DateDifference}
+use Rattle.numbers.specs.Kinds.{arguments}
+use Rattle.numbers.specs.Meaning.{Reads, Holds}
+use Rattle.numbers.specs.Letters.{lettersKinds, boundsOf}
+use Rattle.numbers.proofs.Laws.{holds-all, holds-left, holds-part, holds-right}
+use Rattle.parameters.specs.Parameters.{dateKinds, unitKind}
+use Rattle.replies.specs.Replies.{durationValues, said, values}
+use Rattle.replies.proofs.Laws.{says-as}
+use Rattle.requests.specs.Calls.{kindsOf, meaningOf}
+use Rattle.requests.proofs.Laws.{no-reply, good-reply}
 use Rattle.requests.proofs.sums.date_difference.Statement.{statement}
 use Rattle.requests.proofs.sums.date_difference.Tie as tie
 
-field-count-requires : tie.Need-field-count-requires
-field-count-requires c κs = search needs
+slice-aggregate-numbers-of : tie.Need-slice-aggregate-numbers-of
+slice-aggregate-numbers-of c = search needs
+
+numbers-of-requires : tie.Need-numbers-of-requires
+numbers-of-requires c κs = search needs
 
 no-request-requires : tie.Need-no-request-requires
 no-request-requires c κs = search needs
 
+reading : (c : tie.After-numbers-of) → Reads (c .numbers-of .result) (arguments (kindsOf DateDifference) (drop 1 (fields (c .before .before .before .args .line .now))))
+unfolding lettersKinds boundsOf
+reading c = c .numbers-of .ensures
+
 returns : tie.Need-returns
-returns c =
-    let f = c .before .before in
-    says-as (c .no-request .ensures)
-    (no-reply DateDifference (fields (f .before .before .args .line .now)) refl _ (f .field-count .ensures) (c .before .if1 .taken) (omega arith))
+returns c = says-as (c .no-request .ensures) (no-reply DateDifference _ refl _ (reading (c .before .before .before)) (not-true _ (c .before .if1 .taken)))
 
-date-at-requires : tie.Need-date-at-requires
-date-at-requires c κs = search needs
+holds : (c : tie.Else1) → Holds (kindsOf DateDifference) (c .before .before .numbers-of .result) 0
+holds c = holds-all _ _ _ (reading (c .before .before)) (not-false _ (c .if1 .left))
 
-enum-known-one : tie.Need-enum-known-one
-enum-known-one c = search needs
+date-requires : tie.Need-date-requires
+date-requires c κs = holds-left dateKinds (dateKinds ++ (unitKind ∷ [])) _ _ (holds c)
 
-enum-told : tie.Need-enum-told
-enum-told c = search needs
+date-requires-2 : tie.Need-date-requires-2
+date-requires-2 c κs = holds-part dateKinds dateKinds (unitKind ∷ []) _ _ (holds (c .before))
 
-no-request-requires-2 : tie.Need-no-request-requires-2
-no-request-requires-2 c κs = search needs
-
-returns-2 : tie.Need-returns-2
-returns-2 c =
-    let x = c .before .before .before in
-    let e = x .before in
-    says-as (c .no-request2 .ensures)
-    (bad-reply DateDifference (fields (e .before .before .before .args .line .now)) refl _ (e .before .field-count .ensures) (e .if1 .left)
-    (group-fails dateKinds _ _ _ (sym (sym (ap ofDateFields (c .before .enum-told .given .1)) ∙ x .date-at .ensures))))
-
-date-at-requires-2 : tie.Need-date-at-requires-2
-date-at-requires-2 c κs = search needs
-
-enum-known-two : tie.Need-enum-known-two
-enum-known-two c = search needs
-
-enum-told-2 : tie.Need-enum-told-2
-enum-told-2 c = search needs
-
-no-request-requires-3 : tie.Need-no-request-requires-3
-no-request-requires-3 c κs = search needs
-
-returns-3 : tie.Need-returns-3
-returns-3 c =
-    let x = c .before .before .before in
-    let t0 = x .before in
-    let e = t0 .before .before .before .before in
-    says-as (c .no-request3 .ensures)
-    (bad-reply DateDifference (fields (e .before .before .before .args .line .now)) refl _ (e .before .field-count .ensures) (e .if1 .left)
-    (group-then-fails dateKinds _ _ _ _ (sym (sym (ap ofDateFields (t0 .before .one .given .1)) ∙ t0 .before .before .before .date-at .ensures))
-    (group-fails dateKinds _ _ _ (sym (sym (ap ofDateFields (c .before .enum-told2 .given .1)) ∙ x .date-at2 .ensures)))))
-
-unit-at-requires : tie.Need-unit-at-requires
-unit-at-requires c κs = search needs
-
-enum-known-unit : tie.Need-enum-known-unit
-enum-known-unit c = search needs
-
-enum-told-3 : tie.Need-enum-told-3
-enum-told-3 c = search needs
-
-no-request-requires-4 : tie.Need-no-request-requires-4
-no-request-requires-4 c κs = search needs
-
-returns-4 : tie.Need-returns-4
-returns-4 c =
-    let x = c .before .before .before in
-    let t1 = x .before in
-    let t0 = t1 .before .before .before .before in
-    let e = t0 .before .before .before .before in
-    says-as (c .no-request4 .ensures)
-    (bad-reply DateDifference (fields (e .before .before .before .args .line .now)) refl _ (e .before .field-count .ensures) (e .if1 .left)
-    (group-then-fails dateKinds _ _ _ _ (sym (sym (ap ofDateFields (t0 .before .one .given .1)) ∙ t0 .before .before .before .date-at .ensures))
-    (group-then-fails dateKinds _ _ _ _ (sym (sym (ap ofDateFields (t1 .before .two .given .1)) ∙ t1 .before .before .before .date-at2 .ensures))
-    (collect-fails _ _ _ _ (sym (ap ofUnitField (c .before .enum-told3 .given .1)) ∙ x .unit-at .ensures)))))
+unit-requires : tie.Need-unit-requires
+unit-requires c κs = holds-right (dateKinds ++ dateKinds) (unitKind ∷ []) _ _ (holds (c .before .before))
 
 diff-iso-date-requires : tie.Need-diff-iso-date-requires
 diff-iso-date-requires c κs = search needs
@@ -98,43 +54,26 @@ diff-iso-date-requires c κs = search needs
 duration-reply-requires : tie.Need-duration-reply-requires
 duration-reply-requires c κs = search needs
 
-returns-5 : tie.Need-returns-5
+returns-2 : tie.Need-returns-2
 unfolding meaningOf
-returns-5 c =
-    let t2 = c .before .before in
-    let t1 = t2 .before .before .before .before in
-    let t0 = t1 .before .before .before .before in
-    let e = t0 .before .before .before .before in
+returns-2 c =
+    let l = c .before .before in
+    let e = l .before .before .before in
     says-as (c .duration-reply .ensures)
-    (ap (λ (a : Answer DateDuration). said (values durationValues a)) (c .before .diff-iso-date .ensures ∙ ap (dateDifference (t0 .before .one .given .0 .0) (t1 .before .two .given .0 .0)) (sym (unit-back (t2 .before .unit .given .0 .0)))) ∙
-    good-reply DateDifference (fields (e .before .before .before .args .line .now)) refl _ _ (e .before .field-count .ensures) (e .if1 .left)
-    (group-then dateKinds _ _ _ _ _ (sym (sym (ap ofDateFields (t0 .before .one .given .1)) ∙ t0 .before .before .before .date-at .ensures))
-    (group-then dateKinds _ _ _ _ _ (sym (sym (ap ofDateFields (t1 .before .two .given .1)) ∙ t1 .before .before .before .date-at2 .ensures))
-    (collect-more _ _ _ _ _ _ (sym (ap ofUnitField (t2 .before .unit .given .1)) ∙ t2 .before .before .before .unit-at .ensures)
-    (collect-end _ _)))))
+    (ap (λ (a : Answer DateDuration). said (values durationValues a)) (rw (l .before .before .date .ensures, l .before .date2 .ensures, l .unit .ensures) at (c .before .diff-iso-date .ensures)) ∙
+    good-reply DateDifference _ refl _ (reading (e .before .before)) (not-false _ (e .if1 .left)))
 
 pub date-difference-spec : {M : Type 1} → statement M
 date-difference-spec =
     tie.close
     (tie.spec
-    field-count-requires
+    slice-aggregate-numbers-of
+    numbers-of-requires
     no-request-requires
     returns
-    date-at-requires
-    enum-known-one
-    enum-told
-    no-request-requires-2
-    returns-2
-    date-at-requires-2
-    enum-known-two
-    enum-told-2
-    no-request-requires-3
-    returns-3
-    unit-at-requires
-    enum-known-unit
-    enum-told-3
-    no-request-requires-4
-    returns-4
+    date-requires
+    date-requires-2
+    unit-requires
     diff-iso-date-requires
     duration-reply-requires
-    returns-5)
+    returns-2)

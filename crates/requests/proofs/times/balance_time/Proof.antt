@@ -1,52 +1,62 @@
--- The count of fields, each field in turn, and the call; whatever fails is no request.
+-- The numbers of the request, the call with them as parameters, and the reply.
 use borrow.Author.Needs.{needs}
-use native.Mathlib.Omega.{arith}
-use mathlib.Core.Path.{_≡_, refl, sym, _∙_, ap}
-use mir.Syntax.{w64}
-use mir.Val.{toZ, ofZ}
-use Rattle.refusal.specs.Answer.{Answer}
-use Rattle.lines.specs.Text.{fields}
-use Rattle.requests.specs.Protocol.{said}
-use Rattle.requests.specs.Calls.{balancedValues, meaningOf, values}
-use Rattle.requests.specs.Meaning.{ofPartsFields}
-use Rattle.requests.proofs.Laws.{bad-reply, good-reply, no-reply, says-as}
-use Rattle.iso_time.specs.declared.BalancedTime.{BalancedTime}
+use borrow.Author.Tests.{not-true, not-false}
+use mathlib.Core.Path.{refl, _∙_, ap}
+use mathlib.Core.List.{[], _∷_, _++_}
 use mir.Facts.{toZ-ofZ}
+use mir.Syntax.{w64}
+use lib.ListN.{drop}
+use Rattle.refusal.specs.Answer.{Answer}
+use Rattle.iso_time.specs.declared.BalancedTime.{BalancedTime}
+use Rattle.lines.specs.Text.{fields}
 use Rattle.calls.specs.declared.Call.the-variants.{BalanceTime}
+use Rattle.numbers.specs.Kinds.{arguments, signed}
+use Rattle.numbers.specs.Meaning.{Reads, Holds}
+use Rattle.numbers.specs.Letters.{lettersKinds, boundsOf}
+use Rattle.numbers.proofs.Laws.{holds-all, holds-left, holds-part, holds-right}
+use Rattle.replies.specs.Replies.{balancedValues, said, values}
+use Rattle.replies.proofs.Laws.{says-as}
+use Rattle.requests.specs.Calls.{kindsOf, meaningOf}
+use Rattle.requests.proofs.Laws.{no-reply, good-reply}
 use Rattle.requests.proofs.times.balance_time.Statement.{statement}
 use Rattle.requests.proofs.times.balance_time.Tie as tie
 
-field-count-requires : tie.Need-field-count-requires
-field-count-requires c κs = search needs
+slice-aggregate-numbers-of : tie.Need-slice-aggregate-numbers-of
+slice-aggregate-numbers-of c = search needs
+
+numbers-of-requires : tie.Need-numbers-of-requires
+numbers-of-requires c κs = search needs
 
 no-request-requires : tie.Need-no-request-requires
 no-request-requires c κs = search needs
 
+reading : (c : tie.After-numbers-of) → Reads (c .numbers-of .result) (arguments (kindsOf BalanceTime) (drop 1 (fields (c .before .before .before .args .line .now))))
+unfolding lettersKinds boundsOf
+reading c = c .numbers-of .ensures
+
 returns : tie.Need-returns
-returns c =
-    let f = c .before .before in
-    says-as (c .no-request .ensures)
-    (no-reply BalanceTime (fields (f .before .before .args .line .now)) refl _ (f .field-count .ensures) (c .before .if1 .taken) (omega arith))
+returns c = says-as (c .no-request .ensures) (no-reply BalanceTime _ refl _ (reading (c .before .before .before)) (not-true _ (c .before .if1 .taken)))
 
-parts-at-requires : tie.Need-parts-at-requires
-parts-at-requires c κs = search needs
+holds : (c : tie.Else1) → Holds (kindsOf BalanceTime) (c .before .before .numbers-of .result) 0
+holds c = holds-all _ _ _ (reading (c .before .before)) (not-false _ (c .if1 .left))
 
-enum-known-parts : tie.Need-enum-known-parts
-enum-known-parts c = search needs
+long-requires : tie.Need-long-requires
+long-requires c κs = holds-left (signed 64 ∷ []) ((signed 64 ∷ []) ++ ((signed 64 ∷ []) ++ ((signed 64 ∷ []) ++ ((signed 64 ∷ []) ++ (signed 64 ∷ []))))) _ _ (holds c)
 
-enum-told : tie.Need-enum-told
-enum-told c = search needs
+long-requires-2 : tie.Need-long-requires-2
+long-requires-2 c κs = holds-part (signed 64 ∷ []) (signed 64 ∷ []) ((signed 64 ∷ []) ++ ((signed 64 ∷ []) ++ ((signed 64 ∷ []) ++ (signed 64 ∷ [])))) _ _ (holds (c .before))
 
-no-request-requires-2 : tie.Need-no-request-requires-2
-no-request-requires-2 c κs = search needs
+long-requires-3 : tie.Need-long-requires-3
+long-requires-3 c κs = holds-part ((signed 64 ∷ []) ++ (signed 64 ∷ [])) (signed 64 ∷ []) ((signed 64 ∷ []) ++ ((signed 64 ∷ []) ++ (signed 64 ∷ []))) _ _ (holds (c .before .before))
 
-returns-2 : tie.Need-returns-2
-returns-2 c =
-    let x = c .before .before .before in
-    let e = x .before in
-    says-as (c .no-request2 .ensures)
-    (bad-reply BalanceTime (fields (e .before .before .before .args .line .now)) refl _ (e .before .field-count .ensures) (e .if1 .left)
-    (sym (sym (ap ofPartsFields (c .before .enum-told .given .1)) ∙ x .parts-at .ensures)))
+long-requires-4 : tie.Need-long-requires-4
+long-requires-4 c κs = holds-part ((signed 64 ∷ []) ++ ((signed 64 ∷ []) ++ (signed 64 ∷ []))) (signed 64 ∷ []) ((signed 64 ∷ []) ++ (signed 64 ∷ [])) _ _ (holds (c .before .before .before))
+
+long-requires-5 : tie.Need-long-requires-5
+long-requires-5 c κs = holds-part ((signed 64 ∷ []) ++ ((signed 64 ∷ []) ++ ((signed 64 ∷ []) ++ (signed 64 ∷ [])))) (signed 64 ∷ []) (signed 64 ∷ []) _ _ (holds (c .before .before .before .before))
+
+long-requires-6 : tie.Need-long-requires-6
+long-requires-6 c κs = holds-right ((signed 64 ∷ []) ++ ((signed 64 ∷ []) ++ ((signed 64 ∷ []) ++ ((signed 64 ∷ []) ++ (signed 64 ∷ []))))) (signed 64 ∷ []) _ _ (holds (c .before .before .before .before .before))
 
 balance-requires : tie.Need-balance-requires
 balance-requires c κs = search needs
@@ -54,35 +64,29 @@ balance-requires c κs = search needs
 balance-reply-requires : tie.Need-balance-reply-requires
 balance-reply-requires c κs = search needs
 
-returns-3 : tie.Need-returns-3
+returns-2 : tie.Need-returns-2
 unfolding meaningOf
-returns-3 c =
-    let t0 = c .before .before .before .before .before .before .before .before in
-    let e = t0 .before .before .before .before in
-    let p = t0 .before .parts .given .0 .0 in
-    let back-hour : toZ w64 (ofZ w64 (p .hour)) ≡ p .hour = toZ-ofZ (record { sfits = c .before .before .before .before .before .before .before .struct-told .given .0 .1 }) in
-    let back-minute : toZ w64 (ofZ w64 (p .minute)) ≡ p .minute = toZ-ofZ (record { sfits = c .before .before .before .before .before .before .struct-told2 .given .1 .0 .1 }) in
-    let back-second : toZ w64 (ofZ w64 (p .second)) ≡ p .second = toZ-ofZ (record { sfits = c .before .before .before .before .before .struct-told3 .given .1 .1 .0 .1 }) in
-    let back-millisecond : toZ w64 (ofZ w64 (p .millisecond)) ≡ p .millisecond = toZ-ofZ (record { sfits = c .before .before .before .before .struct-told4 .given .1 .1 .1 .0 .1 }) in
-    let back-microsecond : toZ w64 (ofZ w64 (p .microsecond)) ≡ p .microsecond = toZ-ofZ (record { sfits = c .before .before .before .struct-told5 .given .1 .1 .1 .1 .0 .1 }) in
-    let back-nanosecond : toZ w64 (ofZ w64 (p .nanosecond)) ≡ p .nanosecond = toZ-ofZ (record { sfits = c .before .before .struct-told6 .given .1 .1 .1 .1 .1 .0 .1 }) in
+returns-2 c =
+    let l = c .before .before in
+    let e = l .before .before .before .before .before .before in
     says-as (c .balance-reply .ensures)
-    (ap (λ (a : Answer BalancedTime). said (values balancedValues a)) (rw (back-hour, back-minute, back-second, back-millisecond, back-microsecond, back-nanosecond) at (c .before .balance .ensures)) ∙
-    good-reply BalanceTime (fields (e .before .before .before .args .line .now)) refl _ _ (e .before .field-count .ensures) (e .if1 .left)
-    (sym (sym (ap ofPartsFields (t0 .before .parts .given .1)) ∙ t0 .before .before .before .parts-at .ensures)))
+    (ap (λ (a : Answer BalancedTime). said (values balancedValues a)) (rw (toZ-ofZ {w = w64} {z = l .before .before .before .before .before .long .result} (record { sfits = l .before .before .before .before .before .long .ok }), toZ-ofZ {w = w64} {z = l .before .before .before .before .long2 .result} (record { sfits = l .before .before .before .before .long2 .ok }), toZ-ofZ {w = w64} {z = l .before .before .before .long3 .result} (record { sfits = l .before .before .before .long3 .ok }), toZ-ofZ {w = w64} {z = l .before .before .long4 .result} (record { sfits = l .before .before .long4 .ok }), toZ-ofZ {w = w64} {z = l .before .long5 .result} (record { sfits = l .before .long5 .ok }), toZ-ofZ {w = w64} {z = l .long6 .result} (record { sfits = l .long6 .ok }), l .before .before .before .before .before .long .ensures, l .before .before .before .before .long2 .ensures, l .before .before .before .long3 .ensures, l .before .before .long4 .ensures, l .before .long5 .ensures, l .long6 .ensures) at (c .before .balance .ensures)) ∙
+    good-reply BalanceTime _ refl _ (reading (e .before .before)) (not-false _ (e .if1 .left)))
 
 pub balance-time-spec : {M : Type 1} → statement M
 balance-time-spec =
     tie.close
     (tie.spec
-    field-count-requires
+    slice-aggregate-numbers-of
+    numbers-of-requires
     no-request-requires
     returns
-    parts-at-requires
-    enum-known-parts
-    enum-told
-    no-request-requires-2
-    returns-2
+    long-requires
+    long-requires-2
+    long-requires-3
+    long-requires-4
+    long-requires-5
+    long-requires-6
     balance-requires
     balance-reply-requires
-    returns-3)
+    returns-2)

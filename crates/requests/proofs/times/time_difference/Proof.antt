@@ -1,71 +1,48 @@
--- The count of fields, each field in turn, and the call; whatever fails is no request.
+-- The numbers of the request, the call with them as parameters, and the reply.
 use borrow.Author.Needs.{needs}
-use native.Mathlib.Omega.{arith}
-use mathlib.Core.Path.{refl, sym, _∙_, ap}
+use borrow.Author.Tests.{not-true, not-false}
+use mathlib.Core.Path.{refl, _∙_, ap}
+use lib.ListN.{drop}
 use Rattle.refusal.specs.Answer.{Answer}
-use Rattle.lines.specs.Text.{fields}
-use Rattle.requests.specs.Protocol.{said}
-use Rattle.requests.specs.Calls.{meaningOf, spanValues, timeKinds, values}
-use Rattle.requests.specs.Meaning.{ofTimeFields}
-use Rattle.requests.proofs.Laws.{bad-reply, good-reply, group-fails, group-then, group-then-fails, no-reply, says-as}
 use Rattle.iso_time.specs.declared.TimeDuration.{TimeDuration}
+use Rattle.lines.specs.Text.{fields}
 use Rattle.calls.specs.declared.Call.the-variants.{TimeDifference}
+use Rattle.numbers.specs.Kinds.{arguments}
+use Rattle.numbers.specs.Meaning.{Reads, Holds}
+use Rattle.numbers.specs.Letters.{lettersKinds, boundsOf}
+use Rattle.numbers.proofs.Laws.{holds-all, holds-left, holds-right}
+use Rattle.parameters.specs.Parameters.{timeKinds}
+use Rattle.replies.specs.Replies.{said, spanValues, values}
+use Rattle.replies.proofs.Laws.{says-as}
+use Rattle.requests.specs.Calls.{kindsOf, meaningOf}
+use Rattle.requests.proofs.Laws.{no-reply, good-reply}
 use Rattle.requests.proofs.times.time_difference.Statement.{statement}
 use Rattle.requests.proofs.times.time_difference.Tie as tie
 
-field-count-requires : tie.Need-field-count-requires
-field-count-requires c κs = search needs
+slice-aggregate-numbers-of : tie.Need-slice-aggregate-numbers-of
+slice-aggregate-numbers-of c = search needs
+
+numbers-of-requires : tie.Need-numbers-of-requires
+numbers-of-requires c κs = search needs
 
 no-request-requires : tie.Need-no-request-requires
 no-request-requires c κs = search needs
 
+reading : (c : tie.After-numbers-of) → Reads (c .numbers-of .result) (arguments (kindsOf TimeDifference) (drop 1 (fields (c .before .before .before .args .line .now))))
+unfolding lettersKinds boundsOf
+reading c = c .numbers-of .ensures
+
 returns : tie.Need-returns
-returns c =
-    let f = c .before .before in
-    says-as (c .no-request .ensures)
-    (no-reply TimeDifference (fields (f .before .before .args .line .now)) refl _ (f .field-count .ensures) (c .before .if1 .taken) (omega arith))
+returns c = says-as (c .no-request .ensures) (no-reply TimeDifference _ refl _ (reading (c .before .before .before)) (not-true _ (c .before .if1 .taken)))
 
-time-at-requires : tie.Need-time-at-requires
-time-at-requires c κs = search needs
+holds : (c : tie.Else1) → Holds (kindsOf TimeDifference) (c .before .before .numbers-of .result) 0
+holds c = holds-all _ _ _ (reading (c .before .before)) (not-false _ (c .if1 .left))
 
-enum-known-one : tie.Need-enum-known-one
-enum-known-one c = search needs
+time-requires : tie.Need-time-requires
+time-requires c κs = holds-left timeKinds timeKinds _ _ (holds c)
 
-enum-told : tie.Need-enum-told
-enum-told c = search needs
-
-no-request-requires-2 : tie.Need-no-request-requires-2
-no-request-requires-2 c κs = search needs
-
-returns-2 : tie.Need-returns-2
-returns-2 c =
-    let x = c .before .before .before in
-    let e = x .before in
-    says-as (c .no-request2 .ensures)
-    (bad-reply TimeDifference (fields (e .before .before .before .args .line .now)) refl _ (e .before .field-count .ensures) (e .if1 .left)
-    (group-fails timeKinds _ _ _ (sym (sym (ap ofTimeFields (c .before .enum-told .given .1)) ∙ x .time-at .ensures))))
-
-time-at-requires-2 : tie.Need-time-at-requires-2
-time-at-requires-2 c κs = search needs
-
-enum-known-two : tie.Need-enum-known-two
-enum-known-two c = search needs
-
-enum-told-2 : tie.Need-enum-told-2
-enum-told-2 c = search needs
-
-no-request-requires-3 : tie.Need-no-request-requires-3
-no-request-requires-3 c κs = search needs
-
-returns-3 : tie.Need-returns-3
-returns-3 c =
-    let x = c .before .before .before in
-    let t0 = x .before in
-    let e = t0 .before .before .before .before in
-    says-as (c .no-request3 .ensures)
-    (bad-reply TimeDifference (fields (e .before .before .before .args .line .now)) refl _ (e .before .field-count .ensures) (e .if1 .left)
-    (group-then-fails timeKinds _ _ _ _ (sym (sym (ap ofTimeFields (t0 .before .one .given .1)) ∙ t0 .before .before .before .time-at .ensures))
-    (sym (sym (ap ofTimeFields (c .before .enum-told2 .given .1)) ∙ x .time-at2 .ensures))))
+time-requires-2 : tie.Need-time-requires-2
+time-requires-2 c κs = holds-right timeKinds timeKinds _ _ (holds (c .before))
 
 diff-requires : tie.Need-diff-requires
 diff-requires c κs = search needs
@@ -73,35 +50,25 @@ diff-requires c κs = search needs
 span-reply-requires : tie.Need-span-reply-requires
 span-reply-requires c κs = search needs
 
-returns-4 : tie.Need-returns-4
+returns-2 : tie.Need-returns-2
 unfolding meaningOf
-returns-4 c =
-    let t1 = c .before .before in
-    let t0 = t1 .before .before .before .before in
-    let e = t0 .before .before .before .before in
+returns-2 c =
+    let l = c .before .before in
+    let e = l .before .before in
     says-as (c .span-reply .ensures)
-    (ap (λ (a : Answer TimeDuration). said (values spanValues a)) (c .before .diff .ensures) ∙
-    good-reply TimeDifference (fields (e .before .before .before .args .line .now)) refl _ _ (e .before .field-count .ensures) (e .if1 .left)
-    (group-then timeKinds _ _ _ _ _ (sym (sym (ap ofTimeFields (t0 .before .one .given .1)) ∙ t0 .before .before .before .time-at .ensures))
-    (sym (sym (ap ofTimeFields (t1 .before .two .given .1)) ∙ t1 .before .before .before .time-at2 .ensures))))
+    (ap (λ (a : Answer TimeDuration). said (values spanValues a)) (rw (l .before .time .ensures, l .time2 .ensures) at (c .before .diff .ensures)) ∙
+    good-reply TimeDifference _ refl _ (reading (e .before .before)) (not-false _ (e .if1 .left)))
 
 pub time-difference-spec : {M : Type 1} → statement M
 time-difference-spec =
     tie.close
     (tie.spec
-    field-count-requires
+    slice-aggregate-numbers-of
+    numbers-of-requires
     no-request-requires
     returns
-    time-at-requires
-    enum-known-one
-    enum-told
-    no-request-requires-2
-    returns-2
-    time-at-requires-2
-    enum-known-two
-    enum-told-2
-    no-request-requires-3
-    returns-3
+    time-requires
+    time-requires-2
     diff-requires
     span-reply-requires
-    returns-4)
+    returns-2)

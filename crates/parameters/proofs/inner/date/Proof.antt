@@ -1,0 +1,44 @@
+-- Three numbers in turn.
+use native.Mathlib.Omega.{arith}
+use mathlib.Core.Path.{_∙_}
+use mathlib.Core.List.{[], _∷_}
+use mir.Facts.{toZ-ofZ}
+use mir.Syntax.{w32}
+use Rattle.numbers.specs.Kinds.{signed, unsigned}
+use Rattle.numbers.proofs.Laws.{in-array, holds-left, holds-part}
+use Rattle.parameters.proofs.Laws.{same-date}
+use Rattle.parameters.proofs.inner.date.Statement.{statement}
+use Rattle.parameters.proofs.inner.date.Tie as tie
+
+int-requires : tie.Need-int-requires
+int-requires c κs = holds-left (signed 32 ∷ []) _ (c .args .n) (c .args .i) (c .pre)
+
+add-byte : tie.Need-add-byte
+add-byte c = let s = c .before in omega (arith, in-array (signed 32) _ (s .args .n) (s .args .i) (s .pre))
+
+byte-requires : tie.Need-byte-requires
+byte-requires c κs = let s = c .before in holds-part (signed 32 ∷ []) (unsigned 8 ∷ []) _ (s .args .n) (s .args .i) (s .pre)
+
+add-byte-2 : tie.Need-add-byte-2
+add-byte-2 c = let s = c .before .before in omega (arith, in-array (signed 32) _ (s .args .n) (s .args .i) (s .pre))
+
+byte-requires-2 : tie.Need-byte-requires-2
+byte-requires-2 c κs = let s = c .before .before in holds-part (signed 32 ∷ unsigned 8 ∷ []) (unsigned 8 ∷ []) _ (s .args .n) (s .args .i) (s .pre)
+
+returns : tie.Need-returns
+returns c =
+    same-date _ _ _ _ _ _
+    (toZ-ofZ {w = w32} {z = c .before .before .int .result} (record { sfits = c .before .before .int .ok }) ∙ c .before .before .int .ensures)
+    (c .before .byte .ensures)
+    (c .byte2 .ensures)
+
+pub date-spec : {M : Type 1} → statement M
+date-spec =
+    tie.close
+    (tie.spec
+    int-requires
+    add-byte
+    byte-requires
+    add-byte-2
+    byte-requires-2
+    returns)

@@ -1,0 +1,2 @@
+// The numbers of a request as the parameters of a call.
+pub mod inner;
