@@ -13,7 +13,7 @@ use Rattle.calls.specs.declared.Call.the-variants.{Unknown}
 use Rattle.numbers.specs.Kinds.{arguments}
 use Rattle.numbers.specs.Meaning.{numbersIn, Reads}
 use Rattle.numbers.specs.declared.Numbers.{Numbers}
-use Rattle.replies.specs.Replies.{Reply, question, said}
+use Rattle.replies.specs.Replies.{question, said}
 use Rattle.replies.specs.Meaning.{Says}
 use Rattle.replies.specs.declared.Written.{Written}
 use Rattle.requests.specs.Calls.{kindsOf, meaningOf, replyOf, replyTo, replyText, responseTo}

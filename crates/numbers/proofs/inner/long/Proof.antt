@@ -8,7 +8,7 @@ use mir.Syntax.{w64}
 use lib.IntN.{pos, negsuc}
 use lib.ListN.{getD}
 use Rattle.numbers.specs.Kinds.{signed}
-use Rattle.numbers.specs.Meaning.{at, numbersIn, cellNumber}
+use Rattle.numbers.specs.Meaning.{at, numbersIn}
 use Rattle.numbers.specs.declared.Cell.{Cell}
 use Rattle.numbers.proofs.Laws.{inside, in-array, in-kind, cell-there, size-below, size-above, below-is, above-is}
 use Rattle.numbers.proofs.inner.long.Statement.{statement}

@@ -1,6 +1,5 @@
 -- A date, then a time.
 use native.Mathlib.Omega.{arith}
-use mathlib.Core.Path.{refl}
 use Rattle.numbers.specs.Kinds.{signed}
 use Rattle.numbers.proofs.Laws.{in-array, holds-left, holds-right}
 use Rattle.parameters.specs.Parameters.{dateKinds, timeKinds}

@@ -2,7 +2,7 @@
 use borrow.Author.Needs.{needs}
 use native.Mathlib.Omega.{arith}
 use Prim.Native.Nat.{_<_, _^_}
-use mathlib.Core.List.{List, _∷_}
+use mathlib.Core.List.{List}
 use mathlib.Core.Path.{_≡_, _∙_, ap}
 use mir.Facts.{toZ-ofZ, toZ-pos, sfits-widen}
 use mir.Syntax.{w32, w64}
