@@ -1,13 +1,13 @@
 -- Where the rest starts: the date that years and months lead to, its day constrained, lies between the two dates. Shortening the day
 -- matters only where the month reached is the second date's own, and there the second date's day is one that the month has.
 -- Assumes nothing.
-use Prim.Native.Nat.{ℕ, _+_, _-_, _*_, _≤_, _<_, min, max}
+use Prim.Native.Nat.{ℕ, _+_, _*_, _≤_, _<_, min, max}
 use native.Mathlib.Omega.{arith}
 use mathlib.Core.Path.{_≡_, refl, sym, _∙_, ap}
 use mathlib.Core.Logic.{⊎-elim}
 use mathlib.Core.Bool.{Bool, true, false}
 use lib.IntN.{ℤ, pos, negℤ, natAbs, _+ℤ_, _-ℤ_, _*ℤ_}
-use lib.Signed.{ltZ, _≤ℤ_}
+use lib.Signed.{_≤ℤ_}
 use Rattle.whole.specs.Whole.{fdiv, fmod}
 use Rattle.whole.proofs.Laws.{ints, size-of, up, dn, split, read-add, read-neg, read-times, range-of, fdiv-fmod, fdiv-unique, fmod-lt, le-by-test}
 use Rattle.iso_date.specs.Proposal.{date, epochDays, isValidISODate, isoDaysInMonth, constrainISODate, clampTo}

@@ -1,15 +1,15 @@
 -- What holds of the calls of modules 1 and 2 beyond their definitions, over every whole number. Assumes nothing.
 use Prim.Native.Nat.{ℕ}
 use native.Mathlib.Omega.{arith}
-use mathlib.Core.Path.{_≡_, refl, ap}
-use mathlib.Core.Bool.{Bool, true, false}
+use mathlib.Core.Path.{_≡_, ap}
+use mathlib.Core.Bool.{true}
 use mathlib.Core.Logic.{_↔_}
 use lib.IntN.{ℤ, pos, negℤ, _+ℤ_, _-ℤ_, _*ℤ_}
-use lib.Signed.{ltZ, leZ, _≤ℤ_}
+use lib.Signed.{_≤ℤ_}
 use Rattle.refusal.specs.Answer.{given, andThen}
 use Rattle.whole.specs.Whole.{fdiv, fmod}
-use Rattle.whole.proofs.Laws.{whole, ints, parts, fdiv-fmod, fdiv-unique, fmod-lt}
-use Rattle.iso_date.specs.Proposal.{dayFromMonth, isoDateToEpochDays, epochDays, isValidISODate, momentWithinLimits, isoDateWithinLimits, noon}
+use Rattle.whole.proofs.Laws.{whole, parts, fdiv-fmod, fdiv-unique, fmod-lt}
+use Rattle.iso_date.specs.Proposal.{dayFromMonth, isoDateToEpochDays, epochDays, isValidISODate, isoDateWithinLimits, noon}
 use Rattle.iso_date.specs.Paper.{balanced, dateToDay, dayToDate}
 use Rattle.iso_date.specs.declared.IsoDate.{IsoDate}
 use Rattle.iso_date.proofs.Dates.{read-valid, there-and-back, back-valid, back-and-there, one-date, plain-month}

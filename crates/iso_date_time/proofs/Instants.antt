@@ -3,7 +3,7 @@
 use Prim.Native.Nat.{ℕ, _+_, _-_, _/_, _%_, _^_, _≤_, _<_}
 use native.Mathlib.Omega.{arith}
 use mathlib.Core.Path.{_≡_, refl, sym, _∙_, ap}
-use mathlib.Core.Bool.{Bool, true, false, _&&_}
+use mathlib.Core.Bool.{Bool, true, false}
 use borrow.Author.Tests.{ltb-true, lt-ltb, le-ltb}
 use lib.IntN.{ℤ, pos, negsuc, negℤ, natAbs, _+ℤ_, _-ℤ_, _*ℤ_}
 use lib.Signed.{ltZ, leZ, _≤ℤ_, _<ℤ_}
@@ -12,7 +12,7 @@ use Rattle.whole.proofs.Laws.{parts, whole, ints, size-of, range-of, read-add, 
 use Rattle.whole.proofs.Edges.{nat-of, raise-room}
 use Rattle.whole.proofs.Tests.{both}
 use Rattle.refusal.specs.Answer.{given, refused}
-use Rattle.iso_date.specs.Proposal.{epochDays, epochDaysToISODate, isoDateToEpochDays, dayFromMonth, isValidISODate, momentWithinLimits, nsPerDay, nsLimit}
+use Rattle.iso_date.specs.Proposal.{epochDays, epochDaysToISODate, isoDateToEpochDays, dayFromMonth, isValidISODate, nsPerDay, nsLimit}
 use Rattle.iso_date.specs.Inner.{dayBias}
 use Rattle.iso_date.specs.declared.IsoDate.{IsoDate}
 use Rattle.iso_date.proofs.Answers.{limits-in}

@@ -1,18 +1,17 @@
 -- What holds of the calls on dates with a time beyond their definitions: the difference of two records within the limits is always
 -- given, is exact in nanoseconds and never of two directions, and rounding does not meet the refusal of a day count. Assumes nothing.
-use Prim.Native.Nat.{ℕ, suc, _+_, _*_, _/_, _%_, _≤_, _<_}
-use native.Mathlib.Nat.{div-add-mod}
+use Prim.Native.Nat.{ℕ, _+_, _*_, _/_, _%_, _≤_, _<_}
 use native.Mathlib.Omega.{arith}
 use mathlib.Core.Path.{_≡_, refl, sym, _∙_, ap}
 use mathlib.Core.Logic.{⊎-elim}
 use mathlib.Core.Bool.{Bool, true, false}
 use lib.Dec.{ltb}
-use lib.IntN.{ℤ, pos, negsuc, negℤ, natAbs, _+ℤ_, _-ℤ_, _*ℤ_}
+use lib.IntN.{ℤ, pos, negℤ, _+ℤ_, _-ℤ_, _*ℤ_}
 use lib.Signed.{_≤ℤ_, quotZ, remZ}
 use Rattle.refusal.specs.Answer.{Answer, given, refused, check, andThen}
 use Rattle.refusal.proofs.Answers.{never}
 use Rattle.whole.specs.Whole.{_⊖_}
-use Rattle.whole.proofs.Laws.{whole, ints, parts, split, size-of, range-of, read-add, read-neg, read-times, read-diff}
+use Rattle.whole.proofs.Laws.{whole, ints, parts, split, read-add, read-neg, read-times, read-diff}
 use Rattle.whole.proofs.Edges.{raised-is}
 use Rattle.iso_date.specs.Proposal.{epochDays, epochDaysToISODate, isValidISODate, nsPerDay}
 use Rattle.iso_date.specs.Paper.{balanced, dayToDate}

@@ -1,9 +1,9 @@
 -- The turn of a difference: the day that moves where date and time pull opposite ways, days as seconds, and differences in days.
 -- Assumes nothing.
-use Prim.Native.Nat.{ℕ, zero, suc, _+_, _-_, _*_, _/_, _%_, _≤_, _<_}
+use Prim.Native.Nat.{ℕ, _+_, _-_, _*_, _/_, _%_, _≤_, _<_}
 use native.Mathlib.Omega.{arith}
 use mathlib.Core.Path.{_≡_, refl, sym, _∙_, ap}
-use mathlib.Core.Bool.{Bool, true, false, cond, _&&_, _||_}
+use mathlib.Core.Bool.{Bool, true, false, cond}
 use borrow.Author.Tests.{ltb-true, ltb-false, lt-ltb, le-ltb, le-leb, leb-true, leb-false}
 use lib.Dec.{ltb, leb}
 use lib.IntN.{ℤ, pos, negℤ, natAbs, _+ℤ_, _-ℤ_, _*ℤ_}

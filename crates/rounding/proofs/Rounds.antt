@@ -13,7 +13,7 @@ use lib.IntN.{ℤ, pos, negsuc, negℤ, negℤ-negℤ, _+ℤ_, _*ℤ_}
 use lib.Signed.{ltZ}
 use Rattle.refusal.specs.Answer.{given, refused, check}
 use Rattle.whole.specs.Whole.{_⊖_, fdiv, fmod}
-use Rattle.whole.proofs.Laws.{up, split, whole, ints, fdiv-unique, read-add, read-neg, add-none}
+use Rattle.whole.proofs.Laws.{up, split, whole, ints, fdiv-unique, read-neg, add-none}
 use Rattle.whole.proofs.Tests.{clash}
 use Rattle.rounding.specs.Proposal.{getUnsignedRoundingMode, applyRule, applyUnsignedRoundingMode, roundQuotient, roundNumberToIncrement, roundNumberToIncrementAsIfPositive}
 use Rattle.rounding.specs.Paper.{inSigned64, rounded, roundNumber, roundNumberAsIfPositive}
