@@ -236,7 +236,7 @@ module _ (day carry : ℤ) (few : natAbs carry < 2 ^ 52) where
 pub day-raised : (day : ℤ) (r : ℕ) → day ≤ℤ pos 1000000000000000000 → day ≡ r ⊖ 1000000000000000000 → r ≤ 2000000000000000000
 day-raised day r h e = omega (arith, ints, read-diff r 1000000000000000000)
 
--- ---- tests of the code as orders, and what is left of a test
+-- ---- what the last test of the code decides
 
 pub limits-decide : (n : ℤ) → negℤ (pos 100000001) ≤ℤ n → leZ n (pos 100000000) ≡ momentWithinLimits n noon
 limits-decide n h =
