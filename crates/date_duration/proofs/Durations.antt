@@ -1,8 +1,8 @@
 -- Parts within their bounds, and tests one after another. Assumes nothing.
-use Prim.Native.Nat.{ℕ, zero, suc, _*_, _^_, _≤_, _<_}
+use Prim.Native.Nat.{ℕ, _*_, _^_, _≤_, _<_}
 use native.Mathlib.Omega.{arith}
 use mathlib.Core.Path.{_≡_, refl, sym, _∙_, ap}
-use mathlib.Core.Bool.{Bool, true, false, not, _&&_}
+use mathlib.Core.Bool.{true, false, not, _&&_}
 use borrow.Author.Tests.{leb-true, leb-false, lt-ltb, le-ltb, ltb-true, ne-eqb}
 use lib.Dec.{leb, ltb}
 use lib.IntN.{ℤ, pos, negsuc, negℤ, negℤ-negℤ, natAbs}
@@ -11,7 +11,7 @@ use mir.Facts.{toZ-ofZ}
 use mir.Syntax.{w64}
 use mir.Val.{SFits, toZ, ofZ}
 use Rattle.whole.proofs.Laws.{ints, size-neg}
-use Rattle.whole.proofs.Tests.{both}
+use Rattle.whole.proofs.Tests.{alike, both}
 use Rattle.refusal.specs.Answer.{refused}
 use Rattle.date_duration.specs.Proposal.{keptOr, duration, anyBelow, anyAbove, small, smallDays, allSmall, isValidDuration, signOf, orElse}
 use Rattle.date_duration.specs.Paper.{newDuration, durationAdjust}
@@ -23,11 +23,7 @@ use Rattle.date_duration.specs.declared.Sign.the-variants.{Negative, Zer
 -- ---- bounds
 
 same-test : (n k a b : ℕ) → (n ≤ k → a < b) → (k < n → b ≤ a) → leb n k ≡ ltb a b
-same-test n k a b f g = go (leb n k) refl
-  where
-    go : (t : Bool) → leb n k ≡ t → leb n k ≡ ltb a b
-    go true e = e ∙ sym (lt-ltb a b (f (leb-true n k e)))
-    go false e = e ∙ sym (le-ltb a b (g (leb-false n k e)))
+same-test n k a b f g = alike (leb n k) (ltb a b) (λ e. lt-ltb a b (f (leb-true n k e))) (λ e. le-ltb a b (g (leb-false n k e)))
 
 -- the size that each part may have
 pub small-is : (z : ℤ) → leb (natAbs z) 4294967295 ≡ small z

@@ -10,6 +10,7 @@ use lib.IntN.{ℤ, pos, negℤ, _+ℤ_, _-ℤ_, _*ℤ_, +ℤ-assoc}
 use lib.Signed.{ltZ, leZ}
 use Rattle.whole.specs.Whole.{fdiv, fmod}
 use Rattle.whole.proofs.Laws.{ints, whole, parts, read-add, read-neg, read-times, fdiv-fmod, fmod-lt}
+use Rattle.whole.proofs.Tests.{alike}
 use Rattle.iso_date.specs.declared.IsoDate.{IsoDate}
 use Rattle.date_math.specs.Proposal.{isLater, isoDateSurpasses, directed, movedBy, inYears}
 use Rattle.date_math.specs.Inner.{placeOf}
@@ -140,16 +141,16 @@ surpasses-by false number t two e f = f
 -- s stands so far from p, and t so far in the same direction
 pub beyond-is : (forward : Bool) (p s t : ℤ) (gap n : ℕ) → s ≡ p +ℤ directed forward gap → t ≡ p +ℤ directed forward n →
     beyond forward s t ≡ ltb gap n
-beyond-is true p s t gap n e f = go (ltb gap n) refl
-  where
-    go : (x : Bool) → ltb gap n ≡ x → ltZ s t ≡ ltb gap n
-    go true h = rw h (omega (arith, ints, ltb-true gap n h, read-add p (pos gap), read-add p (pos n)))
-    go false h = rw h (omega (arith, ints, ltb-false gap n h, read-add p (pos gap), read-add p (pos n)))
-beyond-is false p s t gap n e f = go (ltb gap n) refl
-  where
-    go : (x : Bool) → ltb gap n ≡ x → ltZ t s ≡ ltb gap n
-    go true h = rw h (omega (arith, ints, ltb-true gap n h, read-neg (pos gap), read-neg (pos n), read-add p (negℤ (pos gap)), read-add p (negℤ (pos n))))
-    go false h = rw h (omega (arith, ints, ltb-false gap n h, read-neg (pos gap), read-neg (pos n), read-add p (negℤ (pos gap)), read-add p (negℤ (pos n))))
+beyond-is true p s t gap n e f =
+    let a = read-add p (pos gap) in
+    let b = read-add p (pos n) in
+    sym (alike (ltb gap n) (ltZ s t) (λ h. omega (arith, ints, ltb-true gap n h)) (λ h. omega (arith, ints, ltb-false gap n h)))
+beyond-is false p s t gap n e f =
+    let a = read-add p (negℤ (pos gap)) in
+    let b = read-add p (negℤ (pos n)) in
+    let c = read-neg (pos gap) in
+    let d = read-neg (pos n) in
+    sym (alike (ltb gap n) (ltZ t s) (λ h. omega (arith, ints, ltb-true gap n h)) (λ h. omega (arith, ints, ltb-false gap n h)))
 
 pub surpasses-is : (forward : Bool) (one two t : IsoDate) (gap n : ℕ) → Proper two → Proper t →
     placeOf two ≡ placeOf one +ℤ directed forward gap → placeOf t ≡ placeOf one +ℤ directed forward n →

@@ -1,18 +1,18 @@
 -- Where the rest starts: the date that years and months lead to, its day constrained, lies between the two dates. Shortening the day
 -- matters only where the month reached is the second date's own, and there the second date's day is one that the month has.
 -- Assumes nothing.
-use Prim.Native.Nat.{ℕ, _+_, _-_, _*_, _≤_, _<_, min, max}
+use Prim.Native.Nat.{ℕ, _+_, _*_, _≤_, _<_, min, max}
 use native.Mathlib.Omega.{arith}
 use mathlib.Core.Path.{_≡_, refl, sym, _∙_, ap}
 use mathlib.Core.Logic.{⊎-elim}
 use mathlib.Core.Bool.{Bool, true, false}
-use lib.IntN.{ℤ, pos, negℤ, natAbs, _+ℤ_, _-ℤ_, _*ℤ_}
-use lib.Signed.{ltZ, _≤ℤ_}
-use Rattle.whole.specs.Whole.{fdiv, fmod}
-use Rattle.whole.proofs.Laws.{ints, size-of, up, dn, split, read-add, read-neg, read-times, range-of, fdiv-fmod, fdiv-unique, fmod-lt, le-by-test}
+use lib.IntN.{ℤ, pos, negℤ, natAbs, _+ℤ_, _-ℤ_, _*ℤ_, +ℤ-idr}
+use lib.Signed.{_≤ℤ_}
+use Rattle.whole.specs.Whole.{fdiv}
+use Rattle.whole.proofs.Laws.{ints, size-of, up, dn, split, read-add, read-neg, read-times, range-of, parts, whole, fdiv-moved, regroup, le-by-test}
 use Rattle.iso_date.specs.Proposal.{date, epochDays, isValidISODate, isoDaysInMonth, constrainISODate, clampTo}
 use Rattle.iso_date.specs.declared.IsoDate.{IsoDate}
-use Rattle.iso_date.proofs.Dates.{read-valid}
+use Rattle.iso_date.proofs.Dates.{read-valid, distance}
 use Rattle.iso_date.proofs.Answers.{constrain-valid}
 use Rattle.date_math.specs.Proposal.{directed, movedBy, restStart}
 use Rattle.date_math.specs.Inner.{placeOf}
@@ -167,8 +167,7 @@ module _ (forward : Bool) (one two : IsoDate) (v : isValidISODate one ≡ true) 
 
 -- how far b lies from a, where it is not behind
 pub distance-of : (forward : Bool) (a b : ℤ) → Ahead forward a b → b ≡ a +ℤ directed forward (natAbs (b -ℤ a))
-distance-of true a b h =
-    omega (arith, ints, size-of (b -ℤ a), read-add b (negℤ a), read-neg a, range-of (b -ℤ a), read-add a (pos (natAbs (b -ℤ a))))
+distance-of true a b h = distance b a h .0
 distance-of false a b h =
     omega (arith, ints, size-of (b -ℤ a), read-add b (negℤ a), read-neg a, range-of (b -ℤ a), read-neg (pos (natAbs (b -ℤ a))), read-add a (negℤ (pos (natAbs (b -ℤ a)))))
 
@@ -184,32 +183,11 @@ moved-months : (d : IsoDate) (c m k : ℤ) → k ≡ m +ℤ pos 12 *ℤ c → mo
 unfolding movedBy
 moved-months d c m k e =
     let x : ℤ = pos (d .month) +ℤ m -ℤ pos 1 in
-    let q : ℤ = fdiv x 12 in
-    let f = fdiv-unique (pos (d .month) +ℤ k -ℤ pos 1) (q +ℤ c) 12 (fmod x 12) (fmod-lt x 12 (omega arith)) (moved (d .month) c m k q (fmod x 12) e (fdiv-fmod x 12 (omega arith))) in
-    let g : d .year +ℤ pos 0 +ℤ (q +ℤ c) ≡ d .year +ℤ c +ℤ q = regroup (d .year) q c in
-    rw (f .0, f .1, g)
+    let f = fdiv-moved x c 12 (omega arith) in
+    rw (on (d .month), f .0, f .1, +ℤ-idr (d .year), regroup (d .year) (fdiv x 12) c)
   where
-    moved : (n : ℕ) (c m k q : ℤ) (r : ℕ) → k ≡ m +ℤ pos 12 *ℤ c → pos n +ℤ m -ℤ pos 1 ≡ pos 12 *ℤ q +ℤ pos r →
-        pos n +ℤ k -ℤ pos 1 ≡ pos 12 *ℤ (q +ℤ c) +ℤ pos r
-    moved n c m k q r e f =
-        omega (
-          arith,
-          ints,
-          read-times 12 c,
-          read-add m (pos 12 *ℤ c),
-          read-add (pos n) m,
-          read-add (pos n +ℤ m) (negℤ (pos 1)),
-          read-times 12 q,
-          read-add (pos 12 *ℤ q) (pos r),
-          read-add (pos n) k,
-          read-add (pos n +ℤ k) (negℤ (pos 1)),
-          read-add q c,
-          read-times 12 (q +ℤ c),
-          read-add (pos 12 *ℤ (q +ℤ c)) (pos r),
-        )
-
-    regroup : (a b c : ℤ) → a +ℤ pos 0 +ℤ (b +ℤ c) ≡ a +ℤ c +ℤ b
-    regroup a b c = omega (arith, ints, read-add a (pos 0), read-add b c, read-add (a +ℤ pos 0) (b +ℤ c), read-add a c, read-add (a +ℤ c) b)
+    on : (n : ℕ) → pos n +ℤ k -ℤ pos 1 ≡ pos n +ℤ m -ℤ pos 1 +ℤ pos 12 *ℤ c
+    on n = rw (e, parts m, parts c) (simp whole (omega arith))
 
 joined : (forward : Bool) (y m : ℕ) → directed forward (12 * y + m) ≡ directed forward m +ℤ pos 12 *ℤ directed forward y
 joined forward y m =

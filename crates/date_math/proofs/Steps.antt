@@ -6,10 +6,9 @@ use mathlib.Core.Bool.{Bool, true, false}
 use borrow.Author.Tests.{eq-eqb, ne-eqb, le-leb, lt-leb}
 use lib.Dec.{eqb, leb}
 use lib.ListN.{getD}
-use lib.IntN.{ℤ, pos, negsuc, negℤ, natAbs, _+ℤ_, _-ℤ_, _*ℤ_}
-use lib.Signed.{_≤ℤ_, _<ℤ_}
+use lib.IntN.{ℤ, pos, negℤ, _+ℤ_, _-ℤ_, _*ℤ_}
 use Rattle.whole.specs.Whole.{_⊖_, clampZ}
-use Rattle.whole.proofs.Laws.{up, dn, ints, whole, read-add, read-diff, read-times, fdiv-unique}
+use Rattle.whole.proofs.Laws.{ints, whole, read-add, read-diff, read-times, fdiv-unique}
 use Rattle.iso_date.specs.Proposal.{date, epochDays, monthLengths, leapYear, isoDaysInMonth, dayFromMonth, constrainISODate, clampTo}
 use Rattle.iso_date.specs.Paper.{dayToDate}
 use Rattle.iso_date.specs.Inner.{yearBias, monthBias, dayBias, Balances}

@@ -3,7 +3,7 @@
 use Prim.Native.Nat.{ℕ, _+_, _-_, _*_, _/_, _^_, _≤_, _<_}
 use native.Mathlib.Omega.{arith}
 use mathlib.Core.Path.{_≡_, refl, sym, _∙_, ap, subst}
-use mathlib.Core.Bool.{Bool, true, false, _&&_, _||_}
+use mathlib.Core.Bool.{Bool, true, false, _&&_}
 use borrow.Author.Tests.{lt-ltb}
 use lib.IntN.{ℤ, pos, negℤ, natAbs, _+ℤ_, _-ℤ_, _*ℤ_, +ℤ-assoc}
 use lib.Signed.{ltZ, _≤ℤ_}
@@ -72,17 +72,10 @@ module _ (y m w d : ℤ) (apart : (anyBelow (duration y m w d) && anyAbove (dura
       (rw (h, k, or-true (ltZ w (pos 0)), or-true (ltZ m (pos 0)), or-true (ltZ y (pos 0)), or-true (ltZ (pos 0) m), or-true (ltZ (pos 0) y)))
       apart
 
-not-below-zero : (z : ℤ) → (ltZ z (pos 0) ≡ true → ⊥) → pos 0 ≤ℤ z
-not-below-zero z h = go (ltZ z (pos 0)) refl
+not-less : (a b : ℤ) → (ltZ a b ≡ true → ⊥) → b ≤ℤ a
+not-less a b h = go (ltZ a b) refl
   where
-    go : (t : Bool) → ltZ z (pos 0) ≡ t → pos 0 ≤ℤ z
-    go true e = absurd (h e)
-    go false e = omega (arith, ints)
-
-not-above-zero : (z : ℤ) → (ltZ (pos 0) z ≡ true → ⊥) → z ≤ℤ pos 0
-not-above-zero z h = go (ltZ (pos 0) z) refl
-  where
-    go : (t : Bool) → ltZ (pos 0) z ≡ t → z ≤ℤ pos 0
+    go : (t : Bool) → ltZ a b ≡ t → b ≤ℤ a
     go true e = absurd (h e)
     go false e = omega (arith, ints)
 
@@ -95,7 +88,7 @@ weeks-and-days true w d rest e h k l =
     let n = size-of d in
     let r = range-of w in
     let q = range-of d in
-    let b : pos 0 ≤ℤ d = not-below-zero d (λ x. l x (omega (arith, ints))) in
+    let b : pos 0 ≤ℤ d = not-less d (pos 0) (λ x. l x (omega (arith, ints))) in
     (omega (arith, ints), omega (arith, ints))
 weeks-and-days false w d rest e h k l =
     let t = read-times 7 w in
@@ -104,7 +97,7 @@ weeks-and-days false w d rest e h k l =
     let r = range-of w in
     let q = range-of d in
     let v = read-neg (pos rest) in
-    let b : d ≤ℤ pos 0 = not-above-zero d (λ x. k (omega (arith, ints)) x) in
+    let b : d ≤ℤ pos 0 = not-less (pos 0) d (λ x. k (omega (arith, ints)) x) in
     (omega (arith, ints, read-neg (pos (rest / 7))), omega (arith, ints, read-neg (pos (rest - 7 * (rest / 7)))))
 
 -- ---- the answer meets the rules

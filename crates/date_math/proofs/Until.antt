@@ -5,12 +5,13 @@ use native.Mathlib.Nat.{mul-le-mul-right}
 use native.Mathlib.Omega.{arith}
 use mathlib.Core.Path.{_≡_, refl, sym, _∙_, ap}
 use mathlib.Core.Bool.{Bool, true, false, not, cond}
-use borrow.Author.Tests.{ltb-true, ltb-false, leb-true, leb-false}
+use borrow.Author.Tests.{lt-ltb, le-ltb, ltb-true, ltb-false, leb-true, leb-false}
 use lib.Dec.{ltb, leb}
 use lib.IntN.{ℤ, pos, negℤ, natAbs, _+ℤ_, _-ℤ_, _*ℤ_}
 use lib.Signed.{ltZ}
 use Rattle.whole.specs.Whole.{_⊖_}
 use Rattle.whole.proofs.Laws.{ints, size-of, whole, range-of, read-add, read-neg, read-times}
+use Rattle.whole.proofs.Tests.{alike}
 use Rattle.iso_date.specs.Proposal.{epochDays, epochDaysToISODate, isValidISODate}
 use Rattle.iso_date.specs.Inner.{yearBias, dayBias}
 use Rattle.iso_date.specs.declared.IsoDate.{IsoDate}
@@ -62,13 +63,9 @@ gap-below false y z m d n e gap a b c f h =
     )
 
 less-test : (a b c : ℕ) → b ≤ a → ltb a (b + c) ≡ ltb (a - b) c
-less-test a b c h = go (ltb a (b + c)) refl (ltb (a - b) c) refl
-  where
-    go : (p : Bool) → ltb a (b + c) ≡ p → (q : Bool) → ltb (a - b) c ≡ q → ltb a (b + c) ≡ ltb (a - b) c
-    go true p true q = p ∙ sym q
-    go true p false q = let f : ⊥ = omega (arith, ltb-true a (b + c) p, ltb-false (a - b) c q) in absurd f
-    go false p true q = let f : ⊥ = omega (arith, ltb-false a (b + c) p, ltb-true (a - b) c q) in absurd f
-    go false p false q = p ∙ sym q
+less-test a b c h =
+    alike (ltb a (b + c)) (ltb (a - b) c) (λ e. lt-ltb (a - b) c (omega (arith, ltb-true a (b + c) e)))
+    (λ e. le-ltb (a - b) c (omega (arith, ltb-false a (b + c) e)))
 
 module _ (forward : Bool) (one two : IsoDate) (v : isValidISODate one ≡ true) (w : isValidISODate two ≡ true) (gap : ℕ)
     (far : placeOf two ≡ placeOf one +ℤ directed forward gap) where

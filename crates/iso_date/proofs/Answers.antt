@@ -12,7 +12,7 @@ use Rattle.refusal.specs.Answer.{given, refused, check}
 use Rattle.refusal.proofs.Answers.{given-inj, never}
 use Rattle.whole.specs.Whole.{_⊖_, fmod, clampZ}
 use Rattle.whole.proofs.Laws.{whole, ints, ⊖-same, size-of, range-of, read-add, read-diff, read-times}
-use Rattle.whole.proofs.Tests.{both, and-false}
+use Rattle.whole.proofs.Tests.{alike, both, and-false}
 use Rattle.iso_date.specs.Proposal.{date, leapYear, monthLengths, isoDaysInMonth, dayFromMonth, isoDateToEpochDays, epochDays, epochDaysToISODate, isValidISODate, balancedYear, constrainISODate, clampTo, momentWithinLimits, isoDateWithinLimits, noon, nsPerDay, nsLimit}
 use Rattle.iso_date.specs.Paper.{monthLength, balanced, yearMonth, balanceYearMonth, dateToDay, dayToDate, regulateDate, makeDate, dateLimits, balanceDate}
 use Rattle.iso_date.specs.Inner.{yearBias, monthBias, dayBias, Balances}
@@ -236,14 +236,12 @@ module _ (day carry : ℤ) (few : natAbs carry < 2 ^ 52) where
 pub day-raised : (day : ℤ) (r : ℕ) → day ≤ℤ pos 1000000000000000000 → day ≡ r ⊖ 1000000000000000000 → r ≤ 2000000000000000000
 day-raised day r h e = omega (arith, ints, read-diff r 1000000000000000000)
 
--- ---- tests of the code as orders, and what is left of a test
+-- ---- what the last test of the code decides
 
 pub limits-decide : (n : ℤ) → negℤ (pos 100000001) ≤ℤ n → leZ n (pos 100000000) ≡ momentWithinLimits n noon
-limits-decide n h = go (leZ n (pos 100000000)) refl
-  where
-    go : (t : Bool) → leZ n (pos 100000000) ≡ t → leZ n (pos 100000000) ≡ momentWithinLimits n noon
-    go true e = e ∙ sym (noon-in n h (omega (arith, ints)))
-    go false e = e ∙ sym (limits-high n noon (omega arith) (omega (arith, ints)))
+limits-decide n h =
+    alike (leZ n (pos 100000000)) (momentWithinLimits n noon) (λ e. noon-in n h (omega (arith, ints)))
+    (λ e. limits-high n noon (omega arith) (omega (arith, ints)))
 
 -- a month has a day
 pub length-positive : (y : ℤ) (m : ℕ) → 1 ≤ m → m ≤ 12 → 1 ≤ isoDaysInMonth y m

@@ -2,8 +2,8 @@
 -- Assumes nothing.
 use Prim.Native.Nat.{ℕ, suc, _+_, _-_, _≤_, _<_}
 use native.Mathlib.Omega.{arith}
-use mathlib.Core.Path.{_≡_, refl, sym, _∙_, ap, ap₂}
-use mathlib.Core.Bool.{Bool, true, false, cond, _&&_}
+use mathlib.Core.Path.{_≡_, sym, _∙_, ap, ap₂}
+use mathlib.Core.Bool.{true, cond, _&&_}
 use borrow.Author.Tests.{leb-true, le-leb}
 use lib.Dec.{leb}
 use lib.IntN.{ℤ, pos, negℤ, natAbs, _+ℤ_, _-ℤ_}
@@ -111,7 +111,7 @@ one-date y z m n d e v w same =
     sym (there-and-back y m d v) ∙ ap epochDaysToISODate same ∙ there-and-back z n e w
 
 -- every day is a day of its year
-distance : (n z : ℤ) → z ≤ℤ n → (n ≡ z +ℤ pos (natAbs (n -ℤ z))) × ((k : ℕ) → n <ℤ (z +ℤ pos k) → natAbs (n -ℤ z) < k)
+pub distance : (n z : ℤ) → z ≤ℤ n → (n ≡ z +ℤ pos (natAbs (n -ℤ z))) × ((k : ℕ) → n <ℤ (z +ℤ pos k) → natAbs (n -ℤ z) < k)
 distance n z h =
     let low : pos 0 ≤ℤ (n -ℤ z) = omega (arith, ints, read-add n (negℤ z), read-neg z) in (
       omega (arith, ints, read-add n (negℤ z), read-neg z, nat-of (n -ℤ z) low, range-of (n -ℤ z), read-add z (pos (natAbs (n -ℤ z)))),

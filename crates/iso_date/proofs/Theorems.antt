@@ -1,15 +1,14 @@
 -- What holds of the calls of modules 1 and 2 beyond their definitions, over every whole number. Assumes nothing.
-use Prim.Native.Nat.{ℕ}
 use native.Mathlib.Omega.{arith}
-use mathlib.Core.Path.{_≡_, refl, ap}
-use mathlib.Core.Bool.{Bool, true, false}
+use mathlib.Core.Path.{_≡_, ap}
+use mathlib.Core.Bool.{true}
 use mathlib.Core.Logic.{_↔_}
 use lib.IntN.{ℤ, pos, negℤ, _+ℤ_, _-ℤ_, _*ℤ_}
-use lib.Signed.{ltZ, leZ, _≤ℤ_}
+use lib.Signed.{_≤ℤ_}
 use Rattle.refusal.specs.Answer.{given, andThen}
 use Rattle.whole.specs.Whole.{fdiv, fmod}
-use Rattle.whole.proofs.Laws.{whole, ints, parts, fdiv-fmod, fdiv-unique, fmod-lt}
-use Rattle.iso_date.specs.Proposal.{dayFromMonth, isoDateToEpochDays, epochDays, isValidISODate, momentWithinLimits, isoDateWithinLimits, noon}
+use Rattle.whole.proofs.Laws.{fdiv-moved, regroup}
+use Rattle.iso_date.specs.Proposal.{dayFromMonth, isoDateToEpochDays, epochDays, isValidISODate, isoDateWithinLimits, noon}
 use Rattle.iso_date.specs.Paper.{balanced, dateToDay, dayToDate}
 use Rattle.iso_date.specs.declared.IsoDate.{IsoDate}
 use Rattle.iso_date.proofs.Dates.{read-valid, there-and-back, back-valid, back-and-there, one-date, plain-month}
@@ -43,14 +42,8 @@ limits-are d = (limits-days (epochDays d) noon (omega arith), (λ h. noon-in (ep
 pub months-carry : (y m d k : ℤ) → isoDateToEpochDays y (m +ℤ pos 12 *ℤ k) d ≡ isoDateToEpochDays (y +ℤ k) m d
 unfolding isoDateToEpochDays
 months-carry y m d k =
-    let a = fdiv-unique (m +ℤ pos 12 *ℤ k) (fdiv m 12 +ℤ k) 12 (fmod m 12) (fmod-lt m 12 (omega arith)) (moved m (fdiv m 12) k (fmod m 12) (fdiv-fmod m 12 (omega arith))) in
+    let a = fdiv-moved m k 12 (omega arith) in
     rw (a .0, a .1) (ap (λ (x : ℤ). dayFromMonth x (fmod m 12) +ℤ d -ℤ pos 1) (regroup y (fdiv m 12) k))
-  where
-    moved : (m q k : ℤ) (r : ℕ) → m ≡ pos 12 *ℤ q +ℤ pos r → m +ℤ pos 12 *ℤ k ≡ pos 12 *ℤ (q +ℤ k) +ℤ pos r
-    moved m q k r e = rw (e, parts q, parts k) (simp whole (omega arith))
-
-    regroup : (a b c : ℤ) → a +ℤ (b +ℤ c) ≡ a +ℤ c +ℤ b
-    regroup a b c = rw (parts a, parts b, parts c) (simp whole (omega arith))
 
 -- month 12 is the December of its own year
 pub december : (y d : ℤ) → isoDateToEpochDays y (pos 12 -ℤ pos 1) d ≡ dayFromMonth y 11 +ℤ d -ℤ pos 1

@@ -6,12 +6,12 @@ use mathlib.Core.Bool.{Bool, true, false, cond, _&&_}
 use borrow.Author.Tests.{leb-true, le-leb, lt-leb}
 use lib.Dec.{leb}
 use lib.IntN.{ℤ, pos, negℤ, _+ℤ_, _-ℤ_, _*ℤ_}
-use lib.Signed.{ltZ, _≤ℤ_}
+use lib.Signed.{_≤ℤ_}
 use Rattle.refusal.specs.Answer.{Answer, given, refused, numberOf}
 use Rattle.whole.specs.Whole.{_⊖_}
-use Rattle.whole.proofs.Laws.{ints, read-add, read-neg, read-times, read-diff}
+use Rattle.whole.proofs.Laws.{ints, read-add, read-neg, read-diff}
 use Rattle.whole.proofs.Tests.{both}
-use Rattle.iso_date.specs.Proposal.{epochDays, epochDaysToISODate, isValidISODate, momentWithinLimits, nsPerDay, nsLimit}
+use Rattle.iso_date.specs.Proposal.{epochDays, epochDaysToISODate, isValidISODate, nsPerDay}
 use Rattle.iso_date.specs.Inner.{dayBias}
 use Rattle.iso_date.specs.declared.IsoDate.{IsoDate}
 use Rattle.iso_date.proofs.Answers.{limits-days}

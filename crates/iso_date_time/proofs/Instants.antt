@@ -3,16 +3,16 @@
 use Prim.Native.Nat.{ℕ, _+_, _-_, _/_, _%_, _^_, _≤_, _<_}
 use native.Mathlib.Omega.{arith}
 use mathlib.Core.Path.{_≡_, refl, sym, _∙_, ap}
-use mathlib.Core.Bool.{Bool, true, false, _&&_}
+use mathlib.Core.Bool.{true, false}
 use borrow.Author.Tests.{ltb-true, lt-ltb, le-ltb}
 use lib.IntN.{ℤ, pos, negsuc, negℤ, natAbs, _+ℤ_, _-ℤ_, _*ℤ_}
 use lib.Signed.{ltZ, leZ, _≤ℤ_, _<ℤ_}
 use Rattle.whole.specs.Whole.{_⊖_}
 use Rattle.whole.proofs.Laws.{parts, whole, ints, size-of, range-of, read-add, read-diff, read-times}
 use Rattle.whole.proofs.Edges.{nat-of, raise-room}
-use Rattle.whole.proofs.Tests.{both}
+use Rattle.whole.proofs.Tests.{alike, both}
 use Rattle.refusal.specs.Answer.{given, refused}
-use Rattle.iso_date.specs.Proposal.{epochDays, epochDaysToISODate, isoDateToEpochDays, dayFromMonth, isValidISODate, momentWithinLimits, nsPerDay, nsLimit}
+use Rattle.iso_date.specs.Proposal.{epochDays, epochDaysToISODate, isoDateToEpochDays, dayFromMonth, isValidISODate, nsPerDay, nsLimit}
 use Rattle.iso_date.specs.Inner.{dayBias}
 use Rattle.iso_date.specs.declared.IsoDate.{IsoDate}
 use Rattle.iso_date.proofs.Answers.{limits-in}
@@ -89,15 +89,11 @@ module _ (day ns : ℤ) where
           sym t ∙ moment-decides (omega (arith, ints))
 
       pub on-the-last-day : pos 100000000 ≤ℤ day → day ≤ℤ pos 100000000 → leZ ns (pos 0) ≡ isInstant day ns
-      on-the-last-day h l = go (leZ ns (pos 0)) refl ∙ moment-decides (omega (arith, ints))
-        where
-          go : (t : Bool) → leZ ns (pos 0) ≡ t → leZ ns (pos 0) ≡ leZ moment (pos nsPerDay *ℤ pos 100000000)
-          go true e =
-              let t : leZ moment (pos nsPerDay *ℤ pos 100000000) ≡ true = omega (arith, ints, read-times nsPerDay day, read-add (pos nsPerDay *ℤ day) ns) in
-              e ∙ sym t
-          go false e =
-              let t : leZ moment (pos nsPerDay *ℤ pos 100000000) ≡ false = omega (arith, ints, read-times nsPerDay day, read-add (pos nsPerDay *ℤ day) ns) in
-              e ∙ sym t
+      on-the-last-day h l =
+          let t = read-times nsPerDay day in
+          let s = read-add (pos nsPerDay *ℤ day) ns in
+          alike (leZ ns (pos 0)) (leZ moment (pos nsPerDay *ℤ pos 100000000)) (λ e. omega (arith, ints)) (λ e. omega (arith, ints)) ∙
+          moment-decides (omega (arith, ints))
 
 pub record Instant (day ns : ℤ) : Type 0 where
   pub ns-low : pos 0 ≤ℤ ns

@@ -1,15 +1,16 @@
 -- The limits of a moment by its day and its nanosecond of the day, and how the answers of balancing and rounding come out of their
 -- steps, one law for each way through the code. Assumes nothing.
-use Prim.Native.Nat.{ℕ, _+_, _*_, _^_, _≤_, _<_}
+use Prim.Native.Nat.{ℕ, _^_, _≤_, _<_}
 use native.Mathlib.Omega.{arith}
 use mathlib.Core.Path.{_≡_, refl, sym, _∙_}
-use mathlib.Core.Bool.{Bool, true, false, _&&_}
+use mathlib.Core.Bool.{Bool, true, false}
 use borrow.Author.Tests.{ltb-true, ltb-false}
 use lib.Dec.{ltb}
 use lib.IntN.{ℤ, pos, negℤ, natAbs, _+ℤ_, _-ℤ_, _*ℤ_}
 use lib.Signed.{ltZ, _≤ℤ_, _<ℤ_}
 use Rattle.refusal.specs.Answer.{given, refused, check}
 use Rattle.refusal.proofs.Answers.{given-inj, never}
+use Rattle.whole.proofs.Tests.{alike}
 use Rattle.whole.proofs.Laws.{ints, size-of, range-of, read-add, read-times}
 use Rattle.iso_date.specs.Proposal.{epochDaysToISODate, isoDateToEpochDays, isValidISODate, momentWithinLimits, nsPerDay, nsLimit}
 use Rattle.iso_date.specs.Paper.{balanced, balanceDate, dayToDate}
@@ -36,18 +37,15 @@ module _ (n : ℤ) (ns : ℕ) (small : ns < nsPerDay) where
   -- on the first day of all, midnight lies outside
   pub first-day : negℤ (pos 100000001) ≤ℤ n → n <ℤ negℤ (pos 100000000) → ltb 0 ns ≡ momentWithinLimits n ns
   unfolding momentWithinLimits
-  first-day a b = go (ltb 0 ns) refl
-    where
-      go : (t : Bool) → ltb 0 ns ≡ t → ltb 0 ns ≡ momentWithinLimits n ns
-      go true e =
-          let h = ltb-true 0 ns e in
-          let t = read-times nsPerDay n in
-          let s = read-add (pos nsPerDay *ℤ n) (pos ns) in
-          e ∙ sym (limits-in n ns (omega (arith, ints)) (omega (arith, ints)))
-      go false e =
-          let h = ltb-false 0 ns e in
-          let t : ltZ (negℤ (pos nsLimit)) (pos nsPerDay *ℤ n +ℤ pos ns) ≡ false = omega (arith, ints, read-times nsPerDay n, read-add (pos nsPerDay *ℤ n) (pos ns)) in
-          rw (e, t)
+  first-day a b =
+      let t = read-times nsPerDay n in
+      let s = read-add (pos nsPerDay *ℤ n) (pos ns) in
+      alike (ltb 0 ns) (momentWithinLimits n ns)
+      (λ e. let h = ltb-true 0 ns e in limits-in n ns (omega (arith, ints)) (omega (arith, ints)))
+      (λ e.
+      let h = ltb-false 0 ns e in
+      let u : ltZ (negℤ (pos nsLimit)) (pos nsPerDay *ℤ n +ℤ pos ns) ≡ false = omega (arith, ints) in
+      rw u)
 
 -- ---- a record's checks
 

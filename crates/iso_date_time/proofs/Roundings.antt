@@ -1,15 +1,15 @@
 -- How the answer of rounding a date and time comes out of its steps, one law for each way through the code. Assumes nothing.
 use Prim.Native.Nat.{ℕ, _^_, _<_}
 use native.Mathlib.Omega.{arith}
-use mathlib.Core.Path.{_≡_, refl, sym, _∙_, ap}
+use mathlib.Core.Path.{_≡_, refl, sym, ap}
 use mathlib.Core.Bool.{Bool, true, false}
 use borrow.Author.Tests.{ltb-true}
 use lib.Dec.{ltb}
-use lib.IntN.{ℤ, pos, natAbs, _+ℤ_, _*ℤ_}
+use lib.IntN.{ℤ, pos, natAbs, _+ℤ_, _*ℤ_, +ℤ-idr}
 use lib.Signed.{_≤ℤ_}
 use Rattle.refusal.specs.Answer.{Answer, given, refused, check, numberOf}
 use Rattle.refusal.proofs.Answers.{given-inj, never}
-use Rattle.whole.proofs.Laws.{ints, size-of, range-of, add-none}
+use Rattle.whole.proofs.Laws.{ints, size-of, range-of}
 use Rattle.iso_date.specs.Proposal.{epochDays, epochDaysToISODate, isValidISODate}
 use Rattle.iso_date.specs.Paper.{balanced, dayToDate}
 use Rattle.iso_date.specs.declared.IsoDate.{IsoDate}
@@ -59,7 +59,7 @@ day-valid d n e = go (balanced n) e
 
 -- no weeks
 pub days-alone : (a d : ℤ) → a +ℤ (d +ℤ pos 7 *ℤ pos 0) ≡ a +ℤ d
-days-alone a d = ap (λ (z : ℤ). a +ℤ z) (add-none d)
+days-alone a d = ap (λ (z : ℤ). a +ℤ z) (+ℤ-idr d)
 
 -- ---- the ways
 

@@ -1,18 +1,17 @@
 -- What holds of the calls on dates with a time beyond their definitions: the difference of two records within the limits is always
 -- given, is exact in nanoseconds and never of two directions, and rounding does not meet the refusal of a day count. Assumes nothing.
-use Prim.Native.Nat.{ℕ, suc, _+_, _*_, _/_, _%_, _≤_, _<_}
-use native.Mathlib.Nat.{div-add-mod}
+use Prim.Native.Nat.{ℕ, _+_, _*_, _/_, _%_, _≤_, _<_}
 use native.Mathlib.Omega.{arith}
 use mathlib.Core.Path.{_≡_, refl, sym, _∙_, ap}
 use mathlib.Core.Logic.{⊎-elim}
 use mathlib.Core.Bool.{Bool, true, false}
 use lib.Dec.{ltb}
-use lib.IntN.{ℤ, pos, negsuc, negℤ, natAbs, _+ℤ_, _-ℤ_, _*ℤ_}
+use lib.IntN.{ℤ, pos, negℤ, _+ℤ_, _-ℤ_, _*ℤ_, +ℤ-idl, +ℤ-assoc, +ℤ-comm}
 use lib.Signed.{_≤ℤ_, quotZ, remZ}
 use Rattle.refusal.specs.Answer.{Answer, given, refused, check, andThen}
 use Rattle.refusal.proofs.Answers.{never}
 use Rattle.whole.specs.Whole.{_⊖_}
-use Rattle.whole.proofs.Laws.{whole, ints, parts, split, size-of, range-of, read-add, read-neg, read-times, read-diff}
+use Rattle.whole.proofs.Laws.{whole, ints, parts, split, read-add, read-neg, read-diff}
 use Rattle.whole.proofs.Edges.{raised-is}
 use Rattle.iso_date.specs.Proposal.{epochDays, epochDaysToISODate, isValidISODate, nsPerDay}
 use Rattle.iso_date.specs.Paper.{balanced, dayToDate}
@@ -50,21 +49,13 @@ abbrev pub exactly : InternalDurationRecord → ℤ
 exactly r = pos nsPerDay *ℤ r .date .days +ℤ pos 1000000000 *ℤ r .time .seconds +ℤ r .time .nanoseconds
 
 time-counts : (x z : ℤ) → x +ℤ pos 1000000000 *ℤ quotZ z (pos 1000000000) +ℤ remZ z (pos 1000000000) ≡ x +ℤ z
-time-counts x z = go (pos 1000000000 *ℤ quotZ z (pos 1000000000)) (remZ z (pos 1000000000)) (cut-back z)
-  where
-    go : (s n : ℤ) → s +ℤ n ≡ z → x +ℤ s +ℤ n ≡ x +ℤ z
-    go s n e = omega (arith, ints, read-add x s, read-add (x +ℤ s) n, read-add s n, read-add x z)
+time-counts x z =
+    +ℤ-assoc x (pos 1000000000 *ℤ quotZ z (pos 1000000000)) (remZ z (pos 1000000000)) ∙ ap (λ (y : ℤ). x +ℤ y) (cut-back z)
 
 -- wherever the days stand, they count
 joined-counts : (below : Bool) (y m w d ns : ℤ) → exactly (joined below (duration y m w d) ns) ≡ ns +ℤ pos nsPerDay *ℤ d
-joined-counts true y m w d ns = time-counts (pos nsPerDay *ℤ pos 0) (ns +ℤ pos nsPerDay *ℤ d) ∙ go (ns +ℤ pos nsPerDay *ℤ d)
-  where
-    go : (z : ℤ) → pos nsPerDay *ℤ pos 0 +ℤ z ≡ z
-    go z = omega (arith, ints, read-times nsPerDay (pos 0), read-add (pos nsPerDay *ℤ pos 0) z)
-joined-counts false y m w d ns = time-counts (pos nsPerDay *ℤ d) ns ∙ go (pos nsPerDay *ℤ d) ns
-  where
-    go : (x z : ℤ) → x +ℤ z ≡ z +ℤ x
-    go x z = omega (arith, ints, read-add x z, read-add z x)
+joined-counts true y m w d ns = time-counts (pos nsPerDay *ℤ pos 0) (ns +ℤ pos nsPerDay *ℤ d) ∙ +ℤ-idl (ns +ℤ pos nsPerDay *ℤ d)
+joined-counts false y m w d ns = time-counts (pos nsPerDay *ℤ d) ns ∙ +ℤ-comm (pos nsPerDay *ℤ d) ns
 
 under-day : (unit : AnyUnit) → 3 ≤ unitRank unit → atLeastDay unit ≡ U.Day
 under-day U.Year h = let f : ⊥ = omega arith in absurd f

@@ -1,16 +1,16 @@
 -- The turn of a difference: the day that moves where date and time pull opposite ways, days as seconds, and differences in days.
 -- Assumes nothing.
-use Prim.Native.Nat.{ℕ, zero, suc, _+_, _-_, _*_, _/_, _%_, _≤_, _<_}
+use Prim.Native.Nat.{ℕ, _+_, _-_, _*_, _/_, _%_, _≤_, _<_}
 use native.Mathlib.Omega.{arith}
 use mathlib.Core.Path.{_≡_, refl, sym, _∙_, ap}
-use mathlib.Core.Bool.{Bool, true, false, cond, _&&_, _||_}
+use mathlib.Core.Bool.{Bool, true, false, cond}
 use borrow.Author.Tests.{ltb-true, ltb-false, lt-ltb, le-ltb, le-leb, leb-true, leb-false}
 use lib.Dec.{ltb, leb}
 use lib.IntN.{ℤ, pos, negℤ, natAbs, _+ℤ_, _-ℤ_, _*ℤ_}
 use lib.Signed.{ltZ}
 use Rattle.whole.specs.Whole.{_⊖_}
 use Rattle.whole.proofs.Laws.{up, dn, ints, read-add, read-neg, read-times, read-diff, fdiv-unique}
-use Rattle.whole.proofs.Tests.{and-false}
+use Rattle.whole.proofs.Tests.{alike, and-false}
 use Rattle.iso_date.specs.Proposal.{date, epochDays, epochDaysToISODate, isValidISODate, constrainISODate}
 use Rattle.iso_date.specs.Inner.{dayBias}
 use Rattle.iso_date.specs.declared.IsoDate.{IsoDate}
@@ -202,11 +202,10 @@ module _ (p a q b : ℕ) where
 -- ---- the same over records
 
 same-order : (x y : ℤ) (p q B : ℕ) → x ≡ p ⊖ B → y ≡ q ⊖ B → ltZ x y ≡ ltb p q
-same-order x y p q B e f = go (ltb p q) refl
-  where
-    go : (t : Bool) → ltb p q ≡ t → ltZ x y ≡ ltb p q
-    go true h = rw h (omega (arith, ints, ltb-true p q h, read-diff p B, read-diff q B))
-    go false h = rw h (omega (arith, ints, ltb-false p q h, read-diff p B, read-diff q B))
+same-order x y p q B e f =
+    let a = read-diff p B in
+    let b = read-diff q B in
+    sym (alike (ltb p q) (ltZ x y) (λ h. omega (arith, ints, ltb-true p q h)) (λ h. omega (arith, ints, ltb-false p q h)))
 
 pub moved-days-is : (one two : IsoDateTime) (p q B : ℕ) → isValidISODate (one .date) ≡ true → isValidISODate (two .date) ≡ true →
     epochDays (one .date) ≡ p ⊖ B → epochDays (two .date) ≡ q ⊖ B →

@@ -4,15 +4,14 @@ use Prim.Native.Nat.{ℕ, zero, suc, _-_, _/_, _%_, _≤_, _<_}
 use native.Mathlib.Omega.{arith}
 use mathlib.Core.Path.{_≡_, refl, sym}
 use mathlib.Core.Bool.{true, false}
-use borrow.Author.Tests.{leb-true, le-leb, lt-leb, ne-eqb, lt-ltb, le-ltb}
+use borrow.Author.Tests.{leb-true, ne-eqb, lt-ltb, le-ltb}
 use lib.Dec.{eqb}
-use lib.IntN.{ℤ, pos, negsuc, negℤ, natAbs, _-ℤ_}
-use lib.Signed.{leZ, _≤ℤ_, _<ℤ_}
+use lib.IntN.{ℤ, pos, negℤ, natAbs, _-ℤ_}
 use Rattle.whole.proofs.Laws.{ints, read-add, read-neg}
 use Rattle.whole.proofs.Tests.{both}
 use Rattle.refusal.specs.Answer.{given}
 use Rattle.iso_time.specs.Proposal.{isValidTime, nanoseconds, inSeconds, differenceTime, dividend, validIncrement}
-use Rattle.iso_time.specs.Paper.{bounded, allBounded, timeDifference}
+use Rattle.iso_time.specs.Paper.{allBounded, timeDifference}
 use Rattle.iso_time.specs.declared.IsoTime.{IsoTime}
 use Rattle.iso_time.specs.declared.TimeDuration.{TimeDuration}
 

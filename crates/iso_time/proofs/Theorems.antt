@@ -5,9 +5,9 @@ use native.Mathlib.Nat.{div-add-mod, le-of-lt}
 use native.Mathlib.Omega.{arith}
 use mathlib.Core.Path.{_≡_, sym, _∙_, ap}
 use mathlib.Core.Bool.{true, false}
-use lib.IntN.{ℤ, pos, negsuc, negℤ, _+ℤ_, _-ℤ_, _*ℤ_}
+use lib.IntN.{ℤ, pos, negsuc, _+ℤ_, _-ℤ_, _*ℤ_, +ℤ-comm, -ℤ-+ℤ-cancel}
 use lib.Signed.{quotZ, remZ, _≤ℤ_}
-use Rattle.whole.proofs.Laws.{whole, ints, read-add, read-neg, read-times}
+use Rattle.whole.proofs.Laws.{whole, ints, read-add, read-times}
 use Rattle.rounding.specs.Proposal.{getUnsignedRoundingMode}
 use Rattle.rounding.specs.Inner.{roundedSize}
 use Rattle.rounding.specs.declared.RoundingMode.{RoundingMode}
@@ -40,9 +40,6 @@ pub cut-back : (z : ℤ) → pos 1000000000 *ℤ quotZ z (pos 1000000000) +ℤ r
 cut-back (pos n) = ap pos (omega (arith, div-add-mod n 1000000000))
 cut-back (negsuc n) = simp whole (omega (arith, div-add-mod (suc n) 1000000000))
 
-plus-less : (a b : ℤ) → a +ℤ (b -ℤ a) ≡ b
-plus-less a b = omega (arith, ints, read-add a (b -ℤ a), read-add b (negℤ a), read-neg a)
-
 abbrev pub nanosecondsOf : TimeDuration → ℤ
 nanosecondsOf d = pos 1000000000 *ℤ d .seconds +ℤ d .nanoseconds
 
@@ -50,7 +47,8 @@ pub difference-adds-back : (one two : IsoTime) → pos (nanoseconds one) +ℤ na
 unfolding differenceTime
 difference-adds-back one two =
     ap (λ (z : ℤ). pos (nanoseconds one) +ℤ z) (cut-back (pos (nanoseconds two) -ℤ pos (nanoseconds one))) ∙
-    plus-less (pos (nanoseconds one)) (pos (nanoseconds two))
+    +ℤ-comm (pos (nanoseconds one)) (pos (nanoseconds two) -ℤ pos (nanoseconds one)) ∙
+    -ℤ-+ℤ-cancel (pos (nanoseconds two)) (pos (nanoseconds one))
 
 -- ---- a rounded time is a multiple of the step within the field, and nearer than one step
 

@@ -9,11 +9,11 @@ use mathlib.Core.List.{List, [], _∷_}
 use borrow.Author.Tests.{eq-eqb, ne-eqb, lt-ltb, le-ltb, le-leb, lt-leb, eqb-true, eqb-false, leb-true, leb-false}
 use lib.Dec.{leb, eqb}
 use lib.ListN.{getD}
-use lib.IntN.{ℤ, pos, negsuc, negℤ, negℤ-negℤ, _+ℤ_, _*ℤ_}
+use lib.IntN.{ℤ, pos, negsuc, negℤ, negℤ-negℤ, _+ℤ_, _*ℤ_, +ℤ-idr}
 use lib.Signed.{ltZ}
 use Rattle.refusal.specs.Answer.{given, refused, check}
 use Rattle.whole.specs.Whole.{_⊖_, fdiv, fmod}
-use Rattle.whole.proofs.Laws.{up, split, whole, ints, fdiv-unique, read-add, read-neg, add-none}
+use Rattle.whole.proofs.Laws.{up, split, whole, ints, fdiv-unique, read-neg}
 use Rattle.whole.proofs.Tests.{clash}
 use Rattle.rounding.specs.Proposal.{getUnsignedRoundingMode, applyRule, applyUnsignedRoundingMode, roundQuotient, roundNumberToIncrement, roundNumberToIncrementAsIfPositive}
 use Rattle.rounding.specs.Paper.{inSigned64, rounded, roundNumber, roundNumberAsIfPositive}
@@ -92,15 +92,15 @@ module _ (r1 : ℤ) (d1 d2 : ℕ) where
   -- by which of the two is nearer, and by the parity of r1 where that matters
   nearer-lower : d1 < d2 → (rule : UnsignedRoundingMode) (even : Bool) → eqb (fmod r1 2) 0 ≡ even → applyRule rule r1 d1 d2 ≡ chosen (upBy rule odd d1 d2)
   nearer-lower h U.Infinity even s = refl
-  nearer-lower h U.Zero even s = sym (add-none r1)
-  nearer-lower h U.HalfZero even s = simp (lt-ltb d1 d2 h, le-ltb d2 d1 (omega arith)) (sym (add-none r1))
-  nearer-lower h U.HalfInfinity even s = simp (lt-ltb d1 d2 h, lt-leb d2 d1 h) (sym (add-none r1))
-  nearer-lower h U.HalfEven true s = simp (s, lt-ltb d1 d2 h, le-ltb d2 d1 (omega arith)) (sym (add-none r1))
-  nearer-lower h U.HalfEven false s = simp (s, lt-ltb d1 d2 h, lt-leb d2 d1 h) (sym (add-none r1))
+  nearer-lower h U.Zero even s = sym (+ℤ-idr r1)
+  nearer-lower h U.HalfZero even s = simp (lt-ltb d1 d2 h, le-ltb d2 d1 (omega arith)) (sym (+ℤ-idr r1))
+  nearer-lower h U.HalfInfinity even s = simp (lt-ltb d1 d2 h, lt-leb d2 d1 h) (sym (+ℤ-idr r1))
+  nearer-lower h U.HalfEven true s = simp (s, lt-ltb d1 d2 h, le-ltb d2 d1 (omega arith)) (sym (+ℤ-idr r1))
+  nearer-lower h U.HalfEven false s = simp (s, lt-ltb d1 d2 h, lt-leb d2 d1 h) (sym (+ℤ-idr r1))
 
   nearer-upper : d2 < d1 → (rule : UnsignedRoundingMode) (even : Bool) → eqb (fmod r1 2) 0 ≡ even → applyRule rule r1 d1 d2 ≡ chosen (upBy rule odd d1 d2)
   nearer-upper h U.Infinity even s = refl
-  nearer-upper h U.Zero even s = sym (add-none r1)
+  nearer-upper h U.Zero even s = sym (+ℤ-idr r1)
   nearer-upper h U.HalfZero even s = simp (le-ltb d1 d2 (omega arith), lt-ltb d2 d1 h)
   nearer-upper h U.HalfInfinity even s = simp (le-ltb d1 d2 (omega arith), lt-ltb d2 d1 h, le-leb d2 d1 (omega arith))
   nearer-upper h U.HalfEven true s = simp (s, le-ltb d1 d2 (omega arith), lt-ltb d2 d1 h)
@@ -108,10 +108,10 @@ module _ (r1 : ℤ) (d1 d2 : ℕ) where
 
   at-middle : d1 ≡ d2 → (rule : UnsignedRoundingMode) (even : Bool) → eqb (fmod r1 2) 0 ≡ even → applyRule rule r1 d1 d2 ≡ chosen (upBy rule odd d1 d2)
   at-middle h U.Infinity even s = refl
-  at-middle h U.Zero even s = sym (add-none r1)
-  at-middle h U.HalfZero even s = simp (le-ltb d1 d2 (omega arith), le-ltb d2 d1 (omega arith)) (sym (add-none r1))
+  at-middle h U.Zero even s = sym (+ℤ-idr r1)
+  at-middle h U.HalfZero even s = simp (le-ltb d1 d2 (omega arith), le-ltb d2 d1 (omega arith)) (sym (+ℤ-idr r1))
   at-middle h U.HalfInfinity even s = simp (le-ltb d1 d2 (omega arith), le-ltb d2 d1 (omega arith), le-leb d2 d1 (omega arith))
-  at-middle h U.HalfEven true s = simp (s, le-ltb d1 d2 (omega arith), le-ltb d2 d1 (omega arith)) (sym (add-none r1))
+  at-middle h U.HalfEven true s = simp (s, le-ltb d1 d2 (omega arith), le-ltb d2 d1 (omega arith)) (sym (+ℤ-idr r1))
   at-middle h U.HalfEven false s = simp (s, le-ltb d1 d2 (omega arith), le-ltb d2 d1 (omega arith), le-leb d2 d1 (omega arith))
 
   by-rule : (rule : UnsignedRoundingMode) → applyRule rule r1 d1 d2 ≡ chosen (upBy rule odd d1 d2)
@@ -125,7 +125,7 @@ module _ (r1 : ℤ) (d1 d2 : ℕ) where
   applied rule = go (eqb d1 0) refl
     where
       go : (t : Bool) → eqb d1 0 ≡ t → applyUnsignedRoundingMode rule r1 d1 d2 ≡ chosen (takesUp rule odd d1 d2)
-      go true e = rw e (sym (add-none r1))
+      go true e = rw e (sym (+ℤ-idr r1))
       go false e = rw e (by-rule rule)
 
 -- ---- a size: its lower multiple and what is left
@@ -224,7 +224,7 @@ module _ (m step : ℕ) (rule : UnsignedRoundingMode) (p : 0 < step) where
       let z : ℤ = negℤ (pos (m / step)) in
       let f = fdiv-unique (negℤ (pos m)) z step 0 p (below-exact (m / step) step m h) in
       rw (f .0, f .1)
-      (rw (applied z 0 (step - 0) rule, takes-none rule (not (eqb (fmod z 2) 0)) 0 (step - 0) refl, add-none z)
+      (rw (applied z 0 (step - 0) rule, takes-none rule (not (eqb (fmod z 2) 0)) 0 (step - 0) refl, +ℤ-idr z)
       (neg-times (m / step) step ∙ ap (λ (n : ℕ). negℤ (pos n)) (sym h)))
 
   rest-below : (m - m / step * step ≡ 0 → ⊥) → roundQuotient (negℤ (pos m)) step rule *ℤ pos step ≡

@@ -11,13 +11,14 @@ use mathlib.Core.Logic.{_⊎_, inl, inr, ⊎-elim, _↔_}
 use mathlib.Core.Bool.{Bool, true, false}
 use borrow.Author.Tests.{lt-ltb, le-ltb, le-leb, lt-leb, ltb-true, ltb-false}
 use lib.Dec.{T, ltb, leb, leb→le, le→leb, ltb→lt, lt→ltb}
-use lib.IntN.{ℤ, pos, negsuc, negℤ, natAbs, _+ℤ_, _-ℤ_, _*ℤ_}
+use lib.IntN.{ℤ, pos, negsuc, negℤ, natAbs, _+ℤ_, _-ℤ_, _*ℤ_, +ℤ-comm, +ℤ-assoc}
 use lib.Signed.{ltZ, leZ, _≤ℤ_, _<ℤ_, mag, nonNeg}
 use mir.Syntax.{Width}
 use mir.Val.{SFits, toZ, ofZ, hbits}
 use mir.Facts.{toZ-ofZ}
 use lib.Pow.{pow-pos}
 use Rattle.whole.specs.Whole.{_⊖_, fdiv, fmod}
+use Rattle.whole.proofs.Tests.{alike}
 
 abbrev pub up : ℤ → ℕ
 up (pos n) = n
@@ -84,6 +85,9 @@ pub ⊖-add : (a b c d : ℕ) → (a ⊖ b) +ℤ (c ⊖ d) ≡ (a + c) ⊖ (b + 
 
 pub ⊖-sum : (x y : ℤ) (a b c d : ℕ) → x ≡ a ⊖ b → y ≡ c ⊖ d → x +ℤ y ≡ (a + c) ⊖ (b + d)
 ⊖-sum x y a b c d e f = rw (e, f) (⊖-add a b c d)
+
+pub regroup : (a b c : ℤ) → a +ℤ (b +ℤ c) ≡ a +ℤ c +ℤ b
+regroup a b c = ap (λ (z : ℤ). a +ℤ z) (+ℤ-comm b c) ∙ sym (+ℤ-assoc a c b)
 
 -- written with a numeral, such a difference computes, and `simp` does not see it: cite this instead
 pub less-one : (m : ℕ) → 1 ≤ m → pos m -ℤ pos 1 ≡ pos (m - 1)
@@ -377,9 +381,6 @@ pub ruleset ints = (show-le-true, show-lt-true, show-le-false, show-lt-false, re
 
 -- ---- what they give
 
-pub add-none : (z : ℤ) → z +ℤ pos 0 ≡ z
-add-none z = omega (arith, ints, read-add z (pos 0))
-
 -- one test on two pairs: what it says of the one it says of the other
 pub le-by-test : (p q x y : ℤ) → ltZ y x ≡ ltZ q p → p ≤ℤ q → x ≤ℤ y
 le-by-test p q x y e h = let f : ltZ q p ≡ false = omega (arith, ints) in let g : ltZ y x ≡ false = e ∙ f in omega (arith, ints)
@@ -391,7 +392,17 @@ module _ (z : ℤ) (k : ℕ) where
 
   pub size-decides : negℤ (pos k) ≤ℤ z → leZ z (pos k) ≡ leb (natAbs z) k
   size-decides h =
-      ⊎-elim
-      (λ l. let t : leZ z (pos k) ≡ false = omega (arith, ints, size-of z, range-of z, read-neg (pos k)) in t ∙ sym (lt-leb (natAbs z) k l))
-      (λ l. let t : leZ z (pos k) ≡ true = omega (arith, ints, size-of z, range-of z) in t ∙ sym (le-leb (natAbs z) k l))
-      (split k (natAbs z))
+      let n = size-of z in
+      let r = range-of z in
+      let m = read-neg (pos k) in
+      alike (leZ z (pos k)) (leb (natAbs z) k) (λ e. le-leb (natAbs z) k (omega (arith, ints)))
+      (λ e. lt-leb (natAbs z) k (omega (arith, ints)))
+
+-- a multiple of d more: the quotient is so much more, and what it leaves stays
+pub fdiv-moved : (z k : ℤ) (d : ℕ) → 0 < d → (fdiv (z +ℤ pos d *ℤ k) d ≡ fdiv z d +ℤ k) × (fmod (z +ℤ pos d *ℤ k) d ≡ fmod z d)
+fdiv-moved z k d p =
+    fdiv-unique (z +ℤ pos d *ℤ k) (fdiv z d +ℤ k) d (fmod z d) (fmod-lt z d p)
+    (ap (λ (x : ℤ). x +ℤ pos d *ℤ k) (fdiv-fmod z d p) ∙ moved (fdiv z d) (fmod z d))
+  where
+    moved : (q : ℤ) (r : ℕ) → pos d *ℤ q +ℤ pos r +ℤ pos d *ℤ k ≡ pos d *ℤ (q +ℤ k) +ℤ pos r
+    moved q r = rw (parts q, parts k) (simp whole (omega arith))

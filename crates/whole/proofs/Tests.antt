@@ -1,7 +1,7 @@
 -- Tests one after another. Assumes nothing.
 use Prim.Native.Nat.{ℕ}
 use native.Mathlib.Omega.{arith}
-use mathlib.Core.Path.{_≡_, refl}
+use mathlib.Core.Path.{_≡_, refl, sym}
 use mathlib.Core.Bool.{Bool, true, false, _&&_, _||_}
 
 -- no test comes out both ways
@@ -34,3 +34,8 @@ and-false false = refl
 pub or-true : (a : Bool) → (a || true) ≡ true
 or-true true = refl
 or-true false = refl
+
+-- two tests that come out alike are one
+pub alike : (a b : Bool) → (a ≡ true → b ≡ true) → (a ≡ false → b ≡ false) → a ≡ b
+alike true b f g = sym (f refl)
+alike false b f g = sym (g refl)

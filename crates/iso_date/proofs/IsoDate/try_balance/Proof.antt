@@ -1,10 +1,9 @@
 -- The balance with no carry.
-use borrow.Author.Needs.{needs}
 use native.Mathlib.Omega.{arith}
 use mathlib.Core.Path.{_∙_, ap}
 use mir.Facts.{toZ-ofZ}
 use Rattle.iso_date.specs.Paper.{balanceDate}
-use Rattle.whole.proofs.Laws.{add-none}
+use lib.IntN.{+ℤ-idr}
 use Rattle.iso_date.proofs.IsoDate.try_balance.Statement.{statement}
 use Rattle.iso_date.proofs.IsoDate.try_balance.Tie as tie
 
@@ -15,7 +14,7 @@ returns : tie.Need-returns
 returns c =
     let f = c .before .fits in
     rw (toZ-ofZ (f .year), toZ-ofZ (f .month), toZ-ofZ (f .day)) at (c .balance-sum .ensures) ∙
-    ap (balanceDate (c .before .args .year) (c .before .args .month)) (add-none (c .before .args .day))
+    ap (balanceDate (c .before .args .year) (c .before .args .month)) (+ℤ-idr (c .before .args .day))
 
 pub try-balance-spec : {M : Type 1} → statement M
 try-balance-spec = tie.close (tie.spec balance-sum-requires returns)

@@ -5,8 +5,6 @@ use borrow.Author.Tests.{not-true, not-false}
 use Rattle.iso_date_time.proofs.Moments.{limits-date, limits-time, limits-out, limits-within}
 use Rattle.iso_date_time.proofs.IsoDateTime.check_within_limits.Statement.{statement}
 use Rattle.iso_date_time.proofs.IsoDateTime.check_within_limits.Tie as tie
-use Rattle.iso_date.proofs.IsoDate.is_valid.Reads as IsoDate-is-valid-reads
-use Rattle.iso_time.proofs.IsoTime.is_valid.Reads as IsoTime-is-valid-reads
 
 is-valid-requires : tie.Need-is-valid-requires
 is-valid-requires c κs = search needs
