@@ -1,38 +1,40 @@
--- Which call a name is: the first whose name has the same bytes. Assumes nothing.
-use Prim.Native.Nat.{ℕ}
+-- Which call a name is: that which stands in the table at the name's place among the names. Assumes nothing.
+use Prim.Native.Nat.{ℕ, suc, _<_, _≤_}
 use native.Mathlib.Omega.{arith}
-use mathlib.Core.Path.{_≡_, refl, ap₂}
-use mathlib.Core.Bool.{Bool, true, false}
-use mathlib.Core.List.{List, [], _∷_}
-use borrow.Author.Tests.{eq-eqb, eqb-true}
-use lib.Dec.{eqb}
-use Rattle.whole.proofs.Tests.{both}
-use Rattle.calls.specs.Names.{bytes, sameBytes, nameOf, callIn}
+use mathlib.Core.Path.{_≡_, refl, ap}
+use mathlib.Core.Bool.{Bool, true, false, cond}
+use mathlib.Core.List.{List, [], _∷_, _++_}
+use lib.ListN.{length, getD}
+use Rattle.lines.specs.Text.{sameBytes, placeIn}
+use Rattle.calls.specs.Names.{bytes, nameOf, callIn, everyCall}
 use Rattle.calls.specs.declared.Call.{Call}
+use Rattle.calls.specs.declared.Call.the-variants.{MonthLength, Unknown}
 
--- what `check::same` says of its answer
-abbrev pub SameAs : Bool → List ℕ → List ℕ → Type 0
-SameAs r a b = (r ≡ true → a ≡ b) × (a ≡ b → r ≡ true)
+abbrev namesOf : List Call → List (List ℕ)
+namesOf [] = []
+namesOf (c ∷ cs) = bytes (nameOf c) ∷ namesOf cs
 
-same-refl : (a : List ℕ) → sameBytes a a ≡ true
-same-refl [] = refl
-same-refl (x ∷ a) = simp (eq-eqb x x refl, same-refl a)
+place-most : (fs : List (List ℕ)) (name : List ℕ) → placeIn fs name ≤ length fs
+unfolding placeIn
+place-most [] name = omega arith
+place-most (f ∷ fs) name = go (sameBytes name f) (place-most fs name)
+  where
+    go : (t : Bool) → placeIn fs name ≤ length fs → cond t 0 (suc (placeIn fs name)) ≤ suc (length fs)
+    go true h = omega arith
+    go false h = omega arith
 
-pub same-eq : (a b : List ℕ) → sameBytes a b ≡ true → a ≡ b
-same-eq [] [] e = refl
-same-eq [] (y ∷ b) e = let n : _≡_ {A = ℕ} 0 1 = cc in let f : ⊥ = omega arith in absurd f
-same-eq (x ∷ a) [] e = let n : _≡_ {A = ℕ} 0 1 = cc in let f : ⊥ = omega arith in absurd f
-same-eq (x ∷ a) (y ∷ b) e = let s = both (eqb x y) (sameBytes a b) e in ap₂ (λ (n : ℕ) (l : List ℕ). n ∷ l) (eqb-true x y (s .0)) (same-eq a b (s .1))
+call-at : (cs : List Call) (name : List ℕ) → getD (cs ++ (Unknown ∷ [])) (placeIn (namesOf cs) name) MonthLength ≡ callIn cs name
+unfolding placeIn callIn
+call-at [] name = refl
+call-at (c ∷ cs) name = go (sameBytes name (bytes (nameOf c))) (call-at cs name)
+  where
+    go : (t : Bool) → getD (cs ++ (Unknown ∷ [])) (placeIn (namesOf cs) name) MonthLength ≡ callIn cs name → getD (c ∷ (cs ++ (Unknown ∷ []))) (cond t 0 (suc (placeIn (namesOf cs) name))) MonthLength ≡ cond t c (callIn cs name)
+    go true h = refl
+    go false h = h
 
-module _ (c : Call) (cs : List Call) (name : List ℕ) (r : Bool) (said : SameAs r name (bytes (nameOf c))) where
-  pub this-call : r ≡ true → callIn (c ∷ cs) name ≡ c
-  unfolding callIn
-  this-call e = rw (said .0 e) (rw (same-refl (bytes (nameOf c))))
+module _ (fs : List (List ℕ)) (name : List ℕ) (place : ℕ) (names : fs ≡ namesOf everyCall) (is : place ≡ placeIn fs name) where
+  pub place-small : place < 27
+  place-small = let l : length fs ≡ 26 = ap length names in omega (arith, place-most fs name)
 
-  pub next-call : r ≡ false → callIn (c ∷ cs) name ≡ callIn cs name
-  unfolding callIn
-  next-call e = rw (other (sameBytes name (bytes (nameOf c))) refl)
-    where
-      other : (t : Bool) → sameBytes name (bytes (nameOf c)) ≡ t → sameBytes name (bytes (nameOf c)) ≡ false
-      other true f = let n : _≡_ {A = ℕ} 0 1 = cc (said .1 (same-eq name (bytes (nameOf c)) f)) in let g : ⊥ = omega arith in absurd g
-      other false f = f
+  pub call-there : getD (everyCall ++ (Unknown ∷ [])) place MonthLength ≡ callIn everyCall name
+  call-there = rw (is, names) (call-at everyCall name)

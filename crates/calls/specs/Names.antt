@@ -4,8 +4,9 @@ use Prim.Native.Char.{code}
 use Prim.Native.String.{String}
 use Prim.Native.String as Text
 use mathlib.Core.Bool.{Bool, true, false, cond, not, _&&_}
-use mathlib.Core.List.{List, [], _∷_, _++_}
+use mathlib.Core.List.{List, [], _∷_}
 use lib.Dec.{eqb}
+use Rattle.lines.specs.Text.{sameBytes}
 use Rattle.calls.specs.declared.Call.{Call}
 use Rattle.calls.specs.declared.Call.the-variants as C
 
@@ -38,44 +39,16 @@ nameOf C.DateTimeDifference = "datetime_difference"
 nameOf C.DateTimeFromInstant = "datetime_from_instant"
 nameOf C.Unknown = ""
 
-abbrev pub dateCalls : List Call
-dateCalls =
-    C.MonthLength ∷ C.DateToDay ∷ C.DayToDate ∷ C.BalanceYearMonth ∷ C.RegulateDate ∷ C.MakeDate ∷ C.DateLimits ∷ C.BalanceDate ∷ []
-
-abbrev pub timeCalls : List Call
-timeCalls = C.RegulateTime ∷ C.BalanceTime ∷ C.TimeDifference ∷ C.RoundNumber ∷ C.RoundNumberAsIfPositive ∷ C.RoundTime ∷ []
-
-abbrev pub durationCalls : List Call
-durationCalls = C.DurationNew ∷ C.DurationSign ∷ C.DurationAbs ∷ C.DurationNegated ∷ C.DurationAdjust ∷ []
-
-abbrev pub sumCalls : List Call
-sumCalls = C.DateSum ∷ C.DateDifference ∷ []
-
-abbrev pub dateTimeCalls : List Call
-dateTimeCalls = C.DateTimeLimits ∷ C.BalanceDateTime ∷ C.RoundDateTime ∷ C.DateTimeDifference ∷ C.DateTimeFromInstant ∷ []
-
--- the calls from a group on
-abbrev pub fromSums : List Call
-fromSums = sumCalls ++ dateTimeCalls
-
-abbrev pub fromDurations : List Call
-fromDurations = durationCalls ++ fromSums
-
-abbrev pub fromTimes : List Call
-fromTimes = timeCalls ++ fromDurations
-
 abbrev pub everyCall : List Call
-everyCall = dateCalls ++ fromTimes
+everyCall =
+    C.MonthLength ∷ C.DateToDay ∷ C.DayToDate ∷ C.BalanceYearMonth ∷ C.RegulateDate ∷ C.MakeDate ∷ C.DateLimits ∷ C.BalanceDate ∷
+    C.RegulateTime ∷ C.BalanceTime ∷ C.TimeDifference ∷ C.RoundNumber ∷ C.RoundNumberAsIfPositive ∷ C.RoundTime ∷
+    C.DurationNew ∷ C.DurationSign ∷ C.DurationAbs ∷ C.DurationNegated ∷ C.DurationAdjust ∷ C.DateSum ∷ C.DateDifference ∷
+    C.DateTimeLimits ∷ C.BalanceDateTime ∷ C.RoundDateTime ∷ C.DateTimeDifference ∷ C.DateTimeFromInstant ∷ []
 
 abbrev pub bytes : String → List ℕ
 bytes Text.[] = []
 bytes (Text._∷_ c cs) = code c ∷ bytes cs
-
-abbrev pub sameBytes : List ℕ → List ℕ → Bool
-sameBytes [] [] = true
-sameBytes [] (b ∷ bs) = false
-sameBytes (a ∷ rest) [] = false
-sameBytes (a ∷ rest) (b ∷ bs) = eqb a b && sameBytes rest bs
 
 -- the first call of a list that has the name
 unfoldable pub callIn : List Call → List ℕ → Call

@@ -32,6 +32,17 @@ unfoldable pub fields : List ℕ → List (List ℕ)
 fields [] = [] ∷ []
 fields (b ∷ bs) = cond (eqb b space) ([] ∷ fields bs) (joinFirst b (fields bs))
 
+abbrev pub sameBytes : List ℕ → List ℕ → Bool
+sameBytes [] [] = true
+sameBytes [] (b ∷ bs) = false
+sameBytes (a ∷ rest) [] = false
+sameBytes (a ∷ rest) (b ∷ bs) = eqb a b && sameBytes rest bs
+
+-- the place, from 0, of the first of some texts that is the word; as many as there are, where none is
+unfoldable pub placeIn : List (List ℕ) → List ℕ → ℕ
+placeIn [] word = 0
+placeIn (f ∷ fs) word = cond (sameBytes word f) 0 (suc (placeIn fs word))
+
 -- ---- numbers
 
 -- a number that was found, or none

@@ -2,6 +2,7 @@
 // Nothing of calendars.
 pub mod inner;
 
+use check::same;
 ghost use mathlib.Core.Path.{_≡_};
 ghost use mathlib.Core.Bool.{cond, _&&_};
 ghost use mathlib.Core.List.{[]};
@@ -9,7 +10,7 @@ ghost use Prim.Native.Nat.{_-_, _^_, _≤_};
 ghost use lib.Dec.{ltb};
 ghost use lib.IntN.{pos, negℤ};
 ghost use lib.ListN.{length, take, drop, getD};
-ghost use Rattle.lines.specs.Text.{fields, allDigits, valueFrom, naturalOf, numberOf, within, number, none};
+ghost use Rattle.lines.specs.Text.{fields, placeIn, allDigits, valueFrom, naturalOf, numberOf, within, number, none};
 ghost use Rattle.lines.specs.Meaning.{ofNumber, ofNatural};
 
 // What stands between two fields.
@@ -55,6 +56,25 @@ pub fn field(line: &[u8], i: usize) -> &[u8]
     let from = field_start(line, i);
     let end = field_end(line, from);
     &line[from..end]
+}
+
+// The place of the first field that is the word, counted from 0; as many as there are fields, where none is.
+pub fn place_of(line: &[u8], word: &[u8]) -> usize
+    ensures { λ r. ⌜ r ≡ placeIn (fields (now (line .entry))) (now (word .entry)) ⌝ }
+{
+    let mut place: usize = 0;
+    let mut from = 0;
+    loop {
+        let end = field_end(line, from);
+        if same(word, &line[from..end]) {
+            return place;
+        }
+        if end == line.len() {
+            return place + 1;
+        }
+        from = end + 1;
+        place += 1;
+    }
 }
 
 // The number whose one shortest form the text is: a natural below 2^64, or a number from -2^63 to -1.

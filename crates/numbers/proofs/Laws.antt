@@ -8,7 +8,7 @@ use mathlib.Core.List.{List, [], _∷_, _++_}
 use mathlib.Core.Logic.{⊎-elim}
 use lib.ListN.{length, getD, take, drop, set, length-take, length-drop, drop-of-length-le}
 use borrow.Author.Tests.{ne-eqb}
-use lib.Seq.{drop-cons, getD-take}
+use lib.Seq.{drop-cons, drop-drop, getD-take}
 use lib.IntN.{ℤ, pos, negsuc, negℤ, natAbs}
 use lib.Signed.{leZ, _≤ℤ_}
 use Rattle.whole.proofs.Laws.{ints, split}
@@ -175,17 +175,8 @@ after [] ls zs h = h
 after (k ∷ ks) ls [] h = absurd h
 after (k ∷ ks) ls (z ∷ zs) h = after ks ls zs (h .1)
 
-drop-none : (i : ℕ) → drop {A = ℤ} i [] ≡ []
-drop-none zero = refl
-drop-none (suc i) = refl
-
-drop-twice : (zs : List ℤ) (i j : ℕ) → drop j (drop i zs) ≡ drop (i + j) zs
-drop-twice zs zero j = let e : 0 + j ≡ j = omega arith in rw e
-drop-twice [] (suc i) j = drop-none j ∙ sym (drop-none (suc i + j))
-drop-twice (z ∷ zs) (suc i) j = let e : suc i + j ≡ suc (i + j) = omega arith in rw e (drop-twice zs i j)
-
 are-right : (ks ls : List Kind) (zs : List ℤ) (i : ℕ) → Are (ks ++ ls) (drop i zs) → Are ls (drop (i + length ks) zs)
-are-right ks ls zs i h = subst (Are ls) (drop-twice zs i (length ks)) (after ks ls (drop i zs) h)
+are-right ks ls zs i h = subst (Are ls) (drop-drop (length ks) i zs) (after ks ls (drop i zs) h)
 
 -- the number at a place
 are-here : (k : Kind) (ks : List Kind) (z : ℤ) (zs : List ℤ) → Are (k ∷ ks) (z ∷ zs) → (k .low ≤ℤ z) × (z ≤ℤ k .high)

@@ -10,11 +10,11 @@ use lib.Dec.{leb}
 use lib.IntN.{ℤ}
 use lib.ListN.{length, getD, drop}
 use Rattle.whole.proofs.Tests.{both}
-use Rattle.lines.specs.Text.{fields, Found, number, none, numberOf, within, questionText}
+use Rattle.lines.specs.Text.{fields, sameBytes, Found, number, none, numberOf, within, questionText}
+use Rattle.lines.proofs.Fields.{same-eq}
 use Rattle.lines.proofs.Lengths.{spread, line-spread, first-spread, number-short}
-use Rattle.calls.specs.Names.{bytes, sameBytes, nameOf, callIn, everyCall, isKnown}
+use Rattle.calls.specs.Names.{bytes, nameOf, callIn, everyCall, isKnown}
 use Rattle.calls.specs.declared.Call.{Call}
-use Rattle.calls.proofs.Names.{same-eq}
 use Rattle.numbers.specs.Kinds.{Kind, Arguments, these, noArguments, also, arguments}
 use Rattle.numbers.proofs.Laws.{also-none}
 use Rattle.replies.specs.Replies.{question}
