@@ -1,18 +1,18 @@
 // The numbers that a refusal carries. An answer carries 0.
 
-// A date or time field is not valid.
+// A field names no date or no time.
 pub const FIELD: u8 = 1;
-// A date lies outside the date limits.
+// The date is too far from the epoch.
 pub const DATE_LIMITS: u8 = 2;
-// A date and time lies outside its limits.
+// The date with its time is too far from the epoch.
 pub const DATETIME_LIMITS: u8 = 3;
-// A balanced day count is beyond 100,000,001 in size.
+// The count of days leaves the balanced range.
 pub const DAY_COUNT: u8 = 4;
-// The unit is not usable for that call.
+// This call does not work in that unit.
 pub const UNIT: u8 = 5;
-// The increment is not allowed.
+// The unit has no such increment.
 pub const INCREMENT: u8 = 6;
-// A plain number is outside the bound given for it.
+// A number that stands for nothing else exceeds its own bound.
 pub const BOUND: u8 = 7;
-// A date duration is not valid.
+// The parts make no duration.
 pub const DURATION: u8 = 8;
