@@ -10,6 +10,7 @@ use mir.Syntax.{w64}
 use mir.Val.{toZ, ofZ}
 use Prim.Native.Nat.{_<_, _^_}
 use Rattle.replies.specs.Replies.{answer}
+use Rattle.replies.specs.Meaning.{writtenOf}
 use Rattle.replies.proofs.Laws.{time-same}
 use Rattle.replies.proofs.inner.balanced_values.Statement.{statement}
 use Rattle.replies.proofs.inner.balanced_values.Tie as tie
@@ -44,7 +45,7 @@ returns c =
     let b-microsecond : t .microsecond < 2 ^ 63 = omega arith in
     let b-nanosecond : t .nanosecond < 2 ^ 63 = omega arith in
     record {
-      reply-is = ap₂ (λ (d : ℤ) (l : List ℤ). answer 0 (d ∷ l)) back (time-same t _ _ _ _ _ _ (toZ-pos w64 b-hour) (toZ-pos w64 b-minute) (toZ-pos w64 b-second) (toZ-pos w64 b-millisecond) (toZ-pos w64 b-microsecond) (toZ-pos w64 b-nanosecond));
+      written-as = ap₂ (λ (d : ℤ) (l : List ℤ). writtenOf (answer 0 (d ∷ l))) back (time-same t _ _ _ _ _ _ (toZ-pos w64 b-hour) (toZ-pos w64 b-minute) (toZ-pos w64 b-second) (toZ-pos w64 b-millisecond) (toZ-pos w64 b-microsecond) (toZ-pos w64 b-nanosecond));
       count-fits = omega arith;
     }
 

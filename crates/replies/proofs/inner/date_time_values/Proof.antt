@@ -9,6 +9,7 @@ use mir.Syntax.{w32, w64}
 use mir.Val.{toZ, ofZ}
 use lib.IntN.{ℤ}
 use Rattle.replies.specs.Replies.{answer}
+use Rattle.replies.specs.Meaning.{writtenOf}
 use Rattle.replies.proofs.Laws.{date-then, time-same}
 use Rattle.replies.proofs.inner.date_time_values.Statement.{statement}
 use Rattle.replies.proofs.inner.date_time_values.Tie as tie
@@ -58,8 +59,8 @@ returns c =
     let microsecond : t .microsecond < 2 ^ 63 = omega arith in
     let nanosecond : t .nanosecond < 2 ^ 63 = omega arith in
     record {
-      reply-is =
-          ap (λ (l : List ℤ). answer 0 l)
+      written-as =
+          ap (λ (l : List ℤ). writtenOf (answer 0 l))
           (date-then d _ _ _ _ _ (toZ-ofZ (cast-t4 (c .before .before .before .before .before .before .before .before)) ∙ back) (toZ-pos w64 month) (toZ-pos w64 day)
           (time-same t _ _ _ _ _ _ (toZ-pos w64 hour) (toZ-pos w64 minute) (toZ-pos w64 second) (toZ-pos w64 millisecond) (toZ-pos w64 microsecond) (toZ-pos w64 nanosecond)));
       count-fits = omega arith;

@@ -5,7 +5,10 @@ use mathlib.Core.Path.{ap}
 use mir.Facts.{toZ-pos}
 use mir.Syntax.{w64}
 use Prim.Native.Nat.{_<_, _^_}
+use mathlib.Core.List.{List}
+use lib.IntN.{ℤ}
 use Rattle.replies.specs.Replies.{answer}
+use Rattle.replies.specs.Meaning.{writtenOf}
 use Rattle.replies.proofs.Laws.{time-same}
 use Rattle.replies.proofs.inner.time_values.Statement.{statement}
 use Rattle.replies.proofs.inner.time_values.Tie as tie
@@ -38,7 +41,7 @@ returns c =
     let b-microsecond : t .microsecond < 2 ^ 63 = omega arith in
     let b-nanosecond : t .nanosecond < 2 ^ 63 = omega arith in
     record {
-      reply-is = ap (answer 0) (time-same t _ _ _ _ _ _ (toZ-pos w64 b-hour) (toZ-pos w64 b-minute) (toZ-pos w64 b-second) (toZ-pos w64 b-millisecond) (toZ-pos w64 b-microsecond) (toZ-pos w64 b-nanosecond));
+      written-as = ap (λ (l : List ℤ). writtenOf (answer 0 l)) (time-same t _ _ _ _ _ _ (toZ-pos w64 b-hour) (toZ-pos w64 b-minute) (toZ-pos w64 b-second) (toZ-pos w64 b-millisecond) (toZ-pos w64 b-microsecond) (toZ-pos w64 b-nanosecond));
       count-fits = omega arith;
     }
 

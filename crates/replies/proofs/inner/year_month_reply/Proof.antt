@@ -1,11 +1,12 @@
 -- A year and a month are two values.
 use borrow.Author.Needs.{needs}
 use native.Mathlib.Omega.{arith}
-use mathlib.Core.Path.{_≡_, _∙_}
+use mathlib.Core.Path.{_≡_, _∙_, ap}
 use mir.Facts.{toZ-ofZ, toZ-pos, sfits-widen}
 use mir.Syntax.{w32, w64}
 use mir.Val.{toZ, ofZ}
 use Prim.Native.Nat.{_<_, _^_}
+use Rattle.replies.specs.Meaning.{writtenOf}
 use Rattle.replies.proofs.Laws.{two-same}
 use Rattle.replies.proofs.inner.year_month_reply.Statement.{statement}
 use Rattle.replies.proofs.inner.year_month_reply.Tie as tie
@@ -25,7 +26,7 @@ returns c =
     let back : toZ w32 (ofZ w32 (r .year)) ≡ r .year = search needs in
     let m : r .month < 2 ^ 63 = omega arith in
     record {
-      reply-is = two-same _ _ _ _ (toZ-ofZ (cast-t2 (c .before)) ∙ back) (toZ-pos w64 m);
+      written-as = ap writtenOf (two-same _ _ _ _ (toZ-ofZ (cast-t2 (c .before)) ∙ back) (toZ-pos w64 m));
       count-fits = omega arith;
     }
 

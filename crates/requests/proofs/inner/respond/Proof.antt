@@ -1,6 +1,6 @@
 -- An empty line for an empty line, the reply's text for any other.
 use borrow.Author.Needs.{needs}
-use Rattle.requests.proofs.Laws.{empty-response, answer-response, question-response, wrote-as}
+use Rattle.requests.proofs.Laws.{count-small, empty-response, answer-response, question-response, wrote-as}
 use Rattle.requests.proofs.inner.respond.Statement.{statement}
 use Rattle.requests.proofs.inner.respond.Tie as tie
 
@@ -17,7 +17,9 @@ reply-to-requires : tie.Need-reply-to-requires
 reply-to-requires c κs = search needs
 
 put-answer-requires : tie.Need-put-answer-requires
-put-answer-requires c κs = search needs
+put-answer-requires c κs =
+    let fits = count-small _ _ (c .before .before .before .reply-to .ensures) in
+    search needs
 
 put-question-requires : tie.Need-put-question-requires
 put-question-requires c κs = search needs
