@@ -20,11 +20,12 @@ use Rattle.date_duration.specs.Proposal.{duration}
 use Rattle.date_duration.specs.declared.DateDuration.{DateDuration}
 use Rattle.options.specs.declared.Unit.{Unit as DateUnit}
 use Rattle.date_math.specs.Proposal.{isLater, isoDateSurpasses, directed, movedBy, inYears, addDaysToISODate, yearsUntil, monthsUntil, restStart, daysUntil, yearsFound, monthsFound, weeksFound, restFound, dateUntil, calendarDateUntil, countsYears, countsMonths, countsWeeks}
+use Rattle.date_math.specs.Claims.{Ahead}
 use Rattle.date_math.specs.Inner.{placeOf, placeBias, yearsIn, monthsIn, weeksIn, apart}
 use Rattle.date_math.proofs.Kept.{kept-is}
 use Rattle.date_math.proofs.Places.{later-place, place-years, moved-proper, years-proper, place-moved-on, directed-times, split-at, surpasses-by, beyond-is, surpasses-is}
 use Rattle.date_math.proofs.Order.{valid-proper, later-day}
-use Rattle.date_math.proofs.Rest.{Ahead, rest-between, fold-years, distance-is}
+use Rattle.date_math.proofs.Rest.{rest-between, fold-years, distance-is}
 
 -- ---- years and months
 
