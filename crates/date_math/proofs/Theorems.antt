@@ -19,7 +19,7 @@ use Rattle.iso_date.proofs.Answers.{constrain-valid}
 use Rattle.date_duration.specs.Proposal.{duration, anyBelow, anyAbove, small, smallDays, allSmall, isValidDuration}
 use Rattle.date_duration.specs.declared.DateDuration.{DateDuration}
 use Rattle.options.specs.declared.Overflow.the-variants.{Constrain}
-use Rattle.options.specs.declared.Unit.{Unit as DateUnit}
+use Rattle.options.specs.declared.Unit.{Unit as TemporalUnit}
 use Rattle.date_math.specs.Proposal.{directed, movedBy, inYears, restStart, countsYears, countsMonths, countsWeeks, calendarDateUntil}
 use Rattle.date_math.specs.Paper.{isDateUnit, dateSum, dateDifference}
 use Rattle.date_math.specs.Rules.{onTheWay, MeetsTheRules}
@@ -105,7 +105,7 @@ weeks-and-days false w d rest e h k l =
 
 -- ---- the answer meets the rules
 
-module _ (one two : IsoDate) (unit : DateUnit) (one-fine : Fine one) (two-fine : Fine two) (forward : Bool) (gap : ℕ)
+module _ (one two : IsoDate) (unit : TemporalUnit) (one-fine : Fine one) (two-fine : Fine two) (forward : Bool) (gap : ℕ)
     (far : placeOf two ≡ placeOf one +ℤ directed forward gap) where
   abbrev years : ℕ
   years = yearsIn unit gap
@@ -327,7 +327,7 @@ places-ahead : (forward : Bool) (a b : IsoDate) → isValidISODate a ≡ true �
 places-ahead true a b v w h = places-by-days a b v w h
 places-ahead false a b v w h = places-by-days b a w v h
 
-pub parts-ahead : (forward : Bool) (one two : IsoDate) (unit : DateUnit) → isValidISODate one ≡ true → isValidISODate two ≡ true →
+pub parts-ahead : (forward : Bool) (one two : IsoDate) (unit : TemporalUnit) → isValidISODate one ≡ true → isValidISODate two ≡ true →
     Ahead forward (epochDays one) (epochDays two) → PartsAhead forward (calendarDateUntil one two unit)
 parts-ahead forward one two unit v w h =
     let gap : ℕ = natAbs (placeOf two -ℤ placeOf one) in
@@ -345,7 +345,7 @@ parts-ahead forward one two unit v w h =
 
 -- ---- demand 3
 
-module _ (one two : IsoDate) (unit : DateUnit) (one-valid : isValidISODate one ≡ true) (one-within : isoDateWithinLimits one ≡ true)
+module _ (one two : IsoDate) (unit : TemporalUnit) (one-valid : isValidISODate one ≡ true) (one-within : isoDateWithinLimits one ≡ true)
     (two-valid : isValidISODate two ≡ true) (two-within : isoDateWithinLimits two ≡ true) where
   -- the difference is always given
   pub always-given : isDateUnit unit ≡ true → dateDifference one two unit ≡ given (calendarDateUntil one two unit)
