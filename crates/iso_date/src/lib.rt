@@ -79,10 +79,10 @@ impl IsoDate {
             return DayResult::Refused(refusal::FIELD);
         }
         let day = inner::epoch_days(self);
-        if day < -100_000_001 {
+        if day < inner::FIRST_BALANCED {
             return DayResult::Refused(refusal::DAY_COUNT);
         }
-        if day > 100_000_001 {
+        if day > inner::LAST_BALANCED {
             return DayResult::Refused(refusal::DAY_COUNT);
         }
         DayResult::Day(day)
@@ -92,10 +92,10 @@ impl IsoDate {
     pub fn from_epoch_days(day: i64) -> DateResult
         ensures { λ r. ⌜ ofDate r ≡ dayToDate day ⌝ }
     {
-        if day < -100_000_001 {
+        if day < inner::FIRST_BALANCED {
             return DateResult::Refused(refusal::DAY_COUNT);
         }
-        if day > 100_000_001 {
+        if day > inner::LAST_BALANCED {
             return DateResult::Refused(refusal::DAY_COUNT);
         }
         let n = whole::inner::raise(day, inner::DAY_BIAS);
