@@ -2,15 +2,17 @@
 // day from the first day of that year; every year that a call can reach, and every day count that matters, is then a natural.
 use crate::DateResult;
 use crate::IsoDate;
+use crate::LimitResult;
 ghost use mathlib.Core.Path.{_≡_};
 ghost use mathlib.Core.Bool.{cond};
 ghost use Prim.Native.Nat.{_+_, _-_, _*_, _<_, _≤_, _^_};
 ghost use lib.ListN.{getD};
 ghost use mathlib.Core.Bool.{true};
 ghost use lib.IntN.{pos, negℤ, natAbs, _+ℤ_};
+ghost use Rattle.refusal.specs.Answer.{numberOf};
 ghost use Rattle.whole.specs.Whole.{_⊖_, clampZ};
 ghost use Rattle.iso_date.specs.Proposal.{leapYear, monthLengths, isoDaysInMonth, daysBeforeMonth, dayFromMonth, isValidISODate, epochDays, epochDaysToISODate, isoDateWithinLimits, clampTo};
-ghost use Rattle.iso_date.specs.Paper.{ofDate, balanceDate};
+ghost use Rattle.iso_date.specs.Paper.{ofDate, ofLimit, balanceDate};
 ghost use Rattle.iso_date.specs.Inner.{yearBias, monthBias, dayBias, yearStart, YearHolds, MonthHolds, Balances};
 
 pub const YEAR_BIAS: u64 = 8_000_000_000;
@@ -241,6 +243,16 @@ pub fn within_limits(date: IsoDate) -> bool
         return false;
     }
     day <= 100_000_000
+}
+
+// The number that a limit test refuses with, 0 where it does not.
+pub fn refused_by(limit: LimitResult) -> u8
+    ensures { λ r. ⌜ r ≡ numberOf (ofLimit limit) ⌝ }
+{
+    match limit {
+        LimitResult::Within => 0,
+        LimitResult::Refused(n) => n,
+    }
 }
 
 // The date of any year, month and day with a carry of days, by the exact day count; 4 past the balanced range.
