@@ -199,6 +199,7 @@ impl DateDuration {
         })
     }
 
+    // Which way a valid duration points, 0 where every part is 0; 8 where it is not valid.
     pub fn sign(self) -> SignResult
         ensures { λ r. ⌜ ofSign r ≡ durationSign self ⌝ }
     {
@@ -208,6 +209,7 @@ impl DateDuration {
         SignResult::Sign(first_sign(self.years, self.months, self.weeks, self.days))
     }
 
+    // A valid duration with each part as its size; 8 where it is not valid.
     pub fn abs(self) -> DurationResult
         ensures { λ r. ⌜ ofDuration r ≡ durationAbs self ⌝ }
     {
@@ -222,6 +224,7 @@ impl DateDuration {
         })
     }
 
+    // A valid duration turned the other way, each part; 8 where it is not valid.
     pub fn negated(self) -> DurationResult
         ensures { λ r. ⌜ ofDuration r ≡ durationNegated self ⌝ }
     {

@@ -13,9 +13,9 @@ use Rattle.whole.proofs.Tests.{and-false, or-true, clash}
 use Rattle.iso_date.specs.declared.IsoDate.{IsoDate}
 use Rattle.date_math.specs.Proposal.{directed}
 use Rattle.date_math.specs.Rules.{onTheWay, Most}
+use Rattle.date_math.specs.Claims.{Ahead}
 use Rattle.date_math.specs.Inner.{placeOf}
 use Rattle.date_math.proofs.Places.{Proper, later-place, directed-times}
-use Rattle.date_math.proofs.Rest.{Ahead}
 
 -- t lies between a and b, in numbers
 abbrev pub between : ℤ → ℤ → ℤ → Bool

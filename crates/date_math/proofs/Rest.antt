@@ -15,14 +15,10 @@ use Rattle.iso_date.specs.declared.IsoDate.{IsoDate}
 use Rattle.iso_date.proofs.Dates.{read-valid, distance}
 use Rattle.iso_date.proofs.Answers.{constrain-valid}
 use Rattle.date_math.specs.Proposal.{directed, movedBy, restStart}
+use Rattle.date_math.specs.Claims.{Ahead}
 use Rattle.date_math.specs.Inner.{placeOf}
 use Rattle.date_math.proofs.Places.{Proper, later-place, moved-proper, place-moved-on, directed-times, directed-add}
 use Rattle.date_math.proofs.Order.{valid-proper, later-day}
-
--- b is not behind a, seen in the direction
-abbrev pub Ahead : Bool → ℤ → ℤ → Type 0
-Ahead true a b = a ≤ℤ b
-Ahead false a b = b ≤ℤ a
 
 -- ---- the order of places is that of days
 

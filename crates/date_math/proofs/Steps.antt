@@ -14,7 +14,7 @@ use Rattle.iso_date.specs.Paper.{dayToDate}
 use Rattle.iso_date.specs.Inner.{yearBias, monthBias, dayBias, Balances}
 use Rattle.iso_date.proofs.Answers.{length-of-year, constrained-valid, day-of-date}
 use Rattle.iso_date.proofs.Dates.{read-valid}
-use Rattle.options.specs.declared.Unit.{Unit as DateUnit}
+use Rattle.options.specs.declared.Unit.{Unit as TemporalUnit}
 use Rattle.options.specs.Units.{unitRank}
 use Rattle.date_math.specs.Proposal.{movedBy, directed, restStart}
 use Rattle.date_math.specs.Paper.{clampedYear}
@@ -38,7 +38,7 @@ directed-down forward n e = rw e
 
 -- ---- counts within a distance, by the unit's rank
 
-module _ (unit : DateUnit) (r : ℕ) (e : r ≡ unitRank unit) where
+module _ (unit : TemporalUnit) (r : ℕ) (e : r ≡ unitRank unit) where
   pub weeks-yes : (n : ℕ) → r ≡ 2 → n / 7 ≡ weeksIn unit n
   unfolding weeksIn
   weeks-yes n h = let t : eqb (unitRank unit) 2 ≡ true = eq-eqb (unitRank unit) 2 (sym e ∙ h) in rw t

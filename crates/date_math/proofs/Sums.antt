@@ -22,7 +22,7 @@ use Rattle.date_duration.specs.Proposal.{isValidDuration}
 use Rattle.date_duration.specs.declared.DateDuration.{DateDuration}
 use Rattle.options.specs.declared.Overflow.{Overflow}
 use Rattle.options.specs.declared.Overflow.the-variants.{Constrain}
-use Rattle.options.specs.declared.Unit.{Unit as DateUnit}
+use Rattle.options.specs.declared.Unit.{Unit as TemporalUnit}
 use Rattle.options.specs.Units.{unitRank}
 use Rattle.date_math.specs.Proposal.{movedBy, calendarDateUntil}
 use Rattle.date_math.specs.Paper.{clampedYear, sumSteps, dateSum, dateDifference}
@@ -145,7 +145,7 @@ module _ (d : IsoDate) (t : DateDuration) (overflow : Overflow) where
   unfolding dateSum sumSteps
   sum-is start e f g = rw (← e, f, ← g)
 
-module _ (one two : IsoDate) (unit : DateUnit) where
+module _ (one two : IsoDate) (unit : TemporalUnit) where
   pub difference-first : (checked : Answer (Unit {0})) (n r : ℕ) → checked ≡ refused n → r ≡ numberOf checked → checked ≡ dateLimits one →
       refused r ≡ dateDifference one two unit
   unfolding dateDifference

@@ -4,10 +4,12 @@ use Prim.Native.Nat.{ℕ, _+_, _-_, _*_, _/_, _^_, _≤_, _<_}
 use native.Mathlib.Omega.{arith}
 use mathlib.Core.Path.{_≡_, refl, sym, _∙_, ap, subst}
 use mathlib.Core.Bool.{Bool, true, false, _&&_}
+use mathlib.Core.Logic.{_↔_}
 use borrow.Author.Tests.{lt-ltb}
 use lib.IntN.{ℤ, pos, negℤ, natAbs, _+ℤ_, _-ℤ_, _*ℤ_, +ℤ-assoc}
 use lib.Signed.{ltZ, _≤ℤ_}
 use Rattle.refusal.specs.Answer.{given}
+use Rattle.refusal.proofs.Answers.{given-inj}
 use Rattle.whole.proofs.Laws.{ints, size-of, range-of, read-add, read-neg, read-times, le-by-test}
 use Rattle.whole.proofs.Tests.{and-false, or-true, clash}
 use Rattle.iso_date.specs.Proposal.{epochDays, isValidISODate, isoDateWithinLimits}
@@ -17,14 +19,15 @@ use Rattle.iso_date.proofs.Answers.{constrain-valid}
 use Rattle.date_duration.specs.Proposal.{duration, anyBelow, anyAbove, small, smallDays, allSmall, isValidDuration}
 use Rattle.date_duration.specs.declared.DateDuration.{DateDuration}
 use Rattle.options.specs.declared.Overflow.the-variants.{Constrain}
-use Rattle.options.specs.declared.Unit.{Unit as DateUnit}
+use Rattle.options.specs.declared.Unit.{Unit as TemporalUnit}
 use Rattle.date_math.specs.Proposal.{directed, movedBy, inYears, restStart, countsYears, countsMonths, countsWeeks, calendarDateUntil}
 use Rattle.date_math.specs.Paper.{isDateUnit, dateSum, dateDifference}
 use Rattle.date_math.specs.Rules.{onTheWay, MeetsTheRules}
+use Rattle.date_math.specs.Claims.{Ahead, PartsAhead}
 use Rattle.date_math.specs.Inner.{placeOf, yearsIn, monthsIn, weeksIn}
 use Rattle.date_math.proofs.Places.{later-place, place-years, place-moved, moved-proper, years-proper, directed-times, directed-add, directed-none, split-at}
 use Rattle.date_math.proofs.Order.{valid-proper, later-day}
-use Rattle.date_math.proofs.Rest.{Ahead, rest-between, distance-of}
+use Rattle.date_math.proofs.Rest.{rest-between, distance-of}
 use Rattle.date_math.proofs.Until.{within-years, years-within, months-within, weeks-within, closed, difference-is}
 use Rattle.date_math.proofs.Most.{between, way-is, size-directed, most-of, most-is}
 use Rattle.date_math.proofs.Sums.{Fine, fine, fine-limits, limit-year, sum-goes, sum-back, day-back}
@@ -102,7 +105,7 @@ weeks-and-days false w d rest e h k l =
 
 -- ---- the answer meets the rules
 
-module _ (one two : IsoDate) (unit : DateUnit) (one-fine : Fine one) (two-fine : Fine two) (forward : Bool) (gap : ℕ)
+module _ (one two : IsoDate) (unit : TemporalUnit) (one-fine : Fine one) (two-fine : Fine two) (forward : Bool) (gap : ℕ)
     (far : placeOf two ≡ placeOf one +ℤ directed forward gap) where
   abbrev years : ℕ
   years = yearsIn unit gap
@@ -324,14 +327,7 @@ places-ahead : (forward : Bool) (a b : IsoDate) → isValidISODate a ≡ true �
 places-ahead true a b v w h = places-by-days a b v w h
 places-ahead false a b v w h = places-by-days b a w v h
 
-pub record PartsAhead (forward : Bool) (r : DateDuration) : Type 0 where
-  pub years : ℕ
-  pub months : ℕ
-  pub weeks : ℕ
-  pub days : ℕ
-  pub are : r ≡ duration (directed forward years) (directed forward months) (directed forward weeks) (directed forward days)
-
-pub parts-ahead : (forward : Bool) (one two : IsoDate) (unit : DateUnit) → isValidISODate one ≡ true → isValidISODate two ≡ true →
+pub parts-ahead : (forward : Bool) (one two : IsoDate) (unit : TemporalUnit) → isValidISODate one ≡ true → isValidISODate two ≡ true →
     Ahead forward (epochDays one) (epochDays two) → PartsAhead forward (calendarDateUntil one two unit)
 parts-ahead forward one two unit v w h =
     let gap : ℕ = natAbs (placeOf two -ℤ placeOf one) in
@@ -349,7 +345,7 @@ parts-ahead forward one two unit v w h =
 
 -- ---- demand 3
 
-module _ (one two : IsoDate) (unit : DateUnit) (one-valid : isValidISODate one ≡ true) (one-within : isoDateWithinLimits one ≡ true)
+module _ (one two : IsoDate) (unit : TemporalUnit) (one-valid : isValidISODate one ≡ true) (one-within : isoDateWithinLimits one ≡ true)
     (two-valid : isValidISODate two ≡ true) (two-within : isoDateWithinLimits two ≡ true) where
   -- the difference is always given
   pub always-given : isDateUnit unit ≡ true → dateDifference one two unit ≡ given (calendarDateUntil one two unit)
@@ -370,3 +366,10 @@ module _ (one two : IsoDate) (unit : DateUnit) (one-valid : isValidISODate one �
       let f = fine one one-valid one-within in
       let g = fine two two-valid two-within in
       in-some-direction one two (λ forward gap far. only-answer one two unit f g forward gap far r m ∙ sym (answer-is one two unit f g forward gap far))
+
+  -- together, of what is given: a difference is given, and it is the one record that meets the rules
+  pub demand-3 : isDateUnit unit ≡ true → (r : DateDuration) → (dateDifference one two unit ≡ given r) ↔ MeetsTheRules one two unit r
+  demand-3 u r = (
+    (λ e. subst (λ (s : DateDuration). MeetsTheRules one two unit s) (given-inj (calendarDateUntil one two unit) r (sym (always-given u) ∙ e)) meets-the-rules),
+    (λ m. always-given u ∙ ap given (sym (no-other r m))),
+  )

@@ -18,13 +18,14 @@ use Rattle.iso_date.specs.declared.IsoDate.{IsoDate}
 use Rattle.iso_date.proofs.Dates.{back-valid, back-and-there}
 use Rattle.date_duration.specs.Proposal.{duration}
 use Rattle.date_duration.specs.declared.DateDuration.{DateDuration}
-use Rattle.options.specs.declared.Unit.{Unit as DateUnit}
-use Rattle.date_math.specs.Proposal.{isLater, isoDateSurpasses, directed, movedBy, inYears, addDaysToISODate, yearsUntil, monthsUntil, restStart, daysUntil, yearsFound, monthsFound, weeksFound, restFound, dateUntil, calendarDateUntil, countsYears, countsMonths, countsWeeks}
+use Rattle.options.specs.declared.Unit.{Unit as TemporalUnit}
+use Rattle.date_math.specs.Proposal.{isLater, isoDateSurpasses, directed, movedBy, inYears, addDaysToISODate, yearsUntil, monthsUntil, restStart, daysUntil, yearsFound, monthsFound, weeksFound, dateUntil, calendarDateUntil, countsYears, countsMonths, countsWeeks}
+use Rattle.date_math.specs.Claims.{Ahead}
 use Rattle.date_math.specs.Inner.{placeOf, placeBias, yearsIn, monthsIn, weeksIn, apart}
 use Rattle.date_math.proofs.Kept.{kept-is}
 use Rattle.date_math.proofs.Places.{later-place, place-years, moved-proper, years-proper, place-moved-on, directed-times, split-at, surpasses-by, beyond-is, surpasses-is}
 use Rattle.date_math.proofs.Order.{valid-proper, later-day}
-use Rattle.date_math.proofs.Rest.{Ahead, rest-between, fold-years, distance-is}
+use Rattle.date_math.proofs.Rest.{rest-between, fold-years, distance-is}
 
 -- ---- years and months
 
@@ -98,7 +99,7 @@ module _ (forward : Bool) (one two : IsoDate) (v : isValidISODate one ≡ true) 
 
 -- ---- what is found under a unit
 
-pub years-within : (unit : DateUnit) (gap : ℕ) → 384 * yearsIn unit gap ≤ gap
+pub years-within : (unit : TemporalUnit) (gap : ℕ) → 384 * yearsIn unit gap ≤ gap
 unfolding yearsIn
 years-within unit gap = go (countsYears unit)
   where
@@ -106,7 +107,7 @@ years-within unit gap = go (countsYears unit)
     go true = omega arith
     go false = omega arith
 
-pub months-within : (unit : DateUnit) (gap : ℕ) → 384 * yearsIn unit gap + 32 * monthsIn unit gap ≤ gap
+pub months-within : (unit : TemporalUnit) (gap : ℕ) → 384 * yearsIn unit gap + 32 * monthsIn unit gap ≤ gap
 unfolding monthsIn
 months-within unit gap = go (yearsIn unit gap) (years-within unit gap) (countsMonths unit)
   where
@@ -114,7 +115,7 @@ months-within unit gap = go (yearsIn unit gap) (years-within unit gap) (countsMo
     go y h true = omega arith
     go y h false = omega arith
 
-pub weeks-within : (unit : DateUnit) (rest : ℕ) → 7 * weeksIn unit rest ≤ rest
+pub weeks-within : (unit : TemporalUnit) (rest : ℕ) → 7 * weeksIn unit rest ≤ rest
 unfolding weeksIn
 weeks-within unit rest = go (countsWeeks unit)
   where
@@ -148,12 +149,12 @@ days-are forward step start two rest h w far =
 -- ---- the whole
 
 -- with a gap of places between the dates and a rest of days
-abbrev pub closed : Bool → DateUnit → ℕ → ℕ → DateDuration
+abbrev pub closed : Bool → TemporalUnit → ℕ → ℕ → DateDuration
 closed forward unit gap rest =
     duration (directed forward (yearsIn unit gap)) (directed forward (monthsIn unit gap)) (directed forward (weeksIn unit rest))
     (directed forward (rest - 7 * weeksIn unit rest))
 
-module _ (forward : Bool) (one two : IsoDate) (unit : DateUnit) (v : isValidISODate one ≡ true) (w : isValidISODate two ≡ true)
+module _ (forward : Bool) (one two : IsoDate) (unit : TemporalUnit) (v : isValidISODate one ≡ true) (w : isValidISODate two ≡ true)
     (gap rest : ℕ) (far : placeOf two ≡ placeOf one +ℤ directed forward gap)
     (left : epochDays two ≡ epochDays (restStart forward one (yearsIn unit gap) (monthsIn unit gap)) +ℤ directed forward rest) where
   years-found : yearsFound forward one two unit ≡ yearsIn unit gap
@@ -185,7 +186,7 @@ module _ (forward : Bool) (one two : IsoDate) (unit : DateUnit) (v : isValidISOD
       by-one n = omega arith
 
   until-is : dateUntil forward one two unit ≡ closed forward unit gap rest
-  unfolding dateUntil restFound
+  unfolding dateUntil
   until-is = rw (years-found, months-found, weeks-found, days-found)
 
   -- in the direction of the gap, if there is one
@@ -280,7 +281,7 @@ years-near one two a b u v p q e f g h =
     let y = valid-proper two q in
     omega (arith, place-up one a u e g, place-up two b v f h, x .month-low, x .month-high, x .day-high, y .month-low, y .month-high, y .day-high)
 
-module _ (one two : IsoDate) (unit : DateUnit) (v : isValidISODate one ≡ true) (w : isValidISODate two ≡ true)
+module _ (one two : IsoDate) (unit : TemporalUnit) (v : isValidISODate one ≡ true) (w : isValidISODate two ≡ true)
     (a b y m s t rest k : ℕ) (from : placeOf one ≡ a ⊖ placeBias) (to : placeOf two ≡ b ⊖ placeBias)
     (years : y ≡ yearsIn unit (apart a b)) (months : m ≡ monthsIn unit (apart a b))
     (start : epochDays (restStart (leb a b) one 0 (12 * y + m)) ≡ s ⊖ (dayBias + 1)) (end : epochDays two ≡ t ⊖ (dayBias + 1))

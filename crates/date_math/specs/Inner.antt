@@ -5,7 +5,7 @@ use mathlib.Core.Bool.{cond}
 use lib.IntN.{ℤ, pos, _+ℤ_, _*ℤ_}
 use Rattle.iso_date.specs.declared.IsoDate.{IsoDate}
 use Rattle.iso_date.specs.Inner.{yearBias}
-use Rattle.options.specs.declared.Unit.{Unit as DateUnit}
+use Rattle.options.specs.declared.Unit.{Unit as TemporalUnit}
 use Rattle.date_math.specs.Proposal.{countsYears, countsMonths, countsWeeks}
 
 unfoldable pub placeOf : IsoDate → ℤ
@@ -15,13 +15,13 @@ abbrev pub placeBias : ℕ
 placeBias = 384 * yearBias
 
 -- how many years and months lie within a distance of places, and how many weeks within one of days
-unfoldable pub yearsIn : DateUnit → ℕ → ℕ
+unfoldable pub yearsIn : TemporalUnit → ℕ → ℕ
 yearsIn unit gap = cond (countsYears unit) (gap / 384) 0
 
-unfoldable pub monthsIn : DateUnit → ℕ → ℕ
+unfoldable pub monthsIn : TemporalUnit → ℕ → ℕ
 monthsIn unit gap = cond (countsMonths unit) ((gap - 384 * yearsIn unit gap) / 32) 0
 
-unfoldable pub weeksIn : DateUnit → ℕ → ℕ
+unfoldable pub weeksIn : TemporalUnit → ℕ → ℕ
 weeksIn unit rest = cond (countsWeeks unit) (rest / 7) 0
 
 -- how far apart two naturals are

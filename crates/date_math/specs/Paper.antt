@@ -11,7 +11,7 @@ use Rattle.iso_date.specs.declared.IsoDate.{IsoDate}
 use Rattle.date_duration.specs.Proposal.{isValidDuration}
 use Rattle.date_duration.specs.declared.DateDuration.{DateDuration}
 use Rattle.options.specs.declared.Overflow.{Overflow}
-use Rattle.options.specs.declared.Unit.{Unit as DateUnit}
+use Rattle.options.specs.declared.Unit.{Unit as TemporalUnit}
 use Rattle.options.specs.Units.{unitRank}
 use Rattle.date_math.specs.Proposal.{movedBy, calendarDateUntil}
 
@@ -34,9 +34,9 @@ dateSum d t overflow = andThen (dateLimits d) (λ _. check (isValidDuration t) 8
 -- ---- the difference
 
 -- the units that dates can be counted in: year, month, week, day
-abbrev pub isDateUnit : DateUnit → Bool
+abbrev pub isDateUnit : TemporalUnit → Bool
 isDateUnit unit = leb (unitRank unit) 3
 
-unfoldable pub dateDifference : IsoDate → IsoDate → DateUnit → Answer DateDuration
+unfoldable pub dateDifference : IsoDate → IsoDate → TemporalUnit → Answer DateDuration
 dateDifference one two unit =
     andThen (dateLimits one) (λ _. andThen (dateLimits two) (λ _. check (isDateUnit unit) 5 (given (calendarDateUntil one two unit))))

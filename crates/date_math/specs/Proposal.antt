@@ -8,7 +8,7 @@ use Rattle.iso_date.specs.Proposal.{date, epochDays, epochDaysToISODate, balanc
 use Rattle.iso_date.specs.declared.IsoDate.{IsoDate}
 use Rattle.date_duration.specs.Proposal.{duration}
 use Rattle.date_duration.specs.declared.DateDuration.{DateDuration}
-use Rattle.options.specs.declared.Unit.{Unit as DateUnit}
+use Rattle.options.specs.declared.Unit.{Unit as TemporalUnit}
 use Rattle.options.specs.Units.{unitRank}
 
 -- ---- Moving a date
@@ -24,7 +24,7 @@ addDaysToISODate d n = epochDaysToISODate (epochDays d +ℤ n)
 
 -- ---- Comparing
 
--- CompareISODate: by year, then month, then day
+-- whether a comes after b, in CompareISODate's order: by year, then month, then day
 unfoldable pub isLater : IsoDate → IsoDate → Bool
 isLater a b =
     ltZ (b .year) (a .year) ||
@@ -50,13 +50,13 @@ kept passed (suc left) k = cond (passed (suc k)) k (kept passed left (suc k))
 -- ---- CalendarDateUntil for ISO dates
 
 -- what is counted under a largest unit
-abbrev pub countsYears : DateUnit → Bool
+abbrev pub countsYears : TemporalUnit → Bool
 countsYears unit = eqb (unitRank unit) 0
 
-abbrev pub countsMonths : DateUnit → Bool
+abbrev pub countsMonths : TemporalUnit → Bool
 countsMonths unit = leb (unitRank unit) 1
 
-abbrev pub countsWeeks : DateUnit → Bool
+abbrev pub countsWeeks : TemporalUnit → Bool
 countsWeeks unit = eqb (unitRank unit) 2
 
 -- the first date moved by years alone
@@ -85,8 +85,8 @@ daysUntil forward step start two =
     kept (λ k. isoDateSurpasses forward (addDaysToISODate start (directed forward (step * k))) two)
     (natAbs (epochDays two -ℤ epochDays start) + 1) 0
 
--- the steps in turn: each is told what was found before it
-module _ (forward : Bool) (one two : IsoDate) (unit : DateUnit) where
+-- the steps in turn, each from where the one before it led
+module _ (forward : Bool) (one two : IsoDate) (unit : TemporalUnit) where
   unfoldable pub yearsFound : ℕ
   yearsFound = cond (countsYears unit) (yearsUntil forward one two) 0
 
@@ -96,18 +96,15 @@ module _ (forward : Bool) (one two : IsoDate) (unit : DateUnit) where
   unfoldable pub weeksFound : IsoDate → ℕ
   weeksFound start = cond (countsWeeks unit) (daysUntil forward 7 start two) 0
 
-  unfoldable pub restFound : ℕ → ℕ → IsoDate → ℕ → DateDuration
-  restFound years months start weeks =
-      duration (directed forward years) (directed forward months) (directed forward weeks)
-      (directed forward (daysUntil forward 1 (addDaysToISODate start (directed forward (7 * weeks))) two))
-
   unfoldable pub dateUntil : DateDuration
   dateUntil =
       let start : IsoDate = restStart forward one yearsFound monthsFound in
-      restFound yearsFound monthsFound start (weeksFound start)
+      let weeks : ℕ = weeksFound start in
+      let days : ℕ = daysUntil forward 1 (addDaysToISODate start (directed forward (7 * weeks))) two in
+      duration (directed forward yearsFound) (directed forward monthsFound) (directed forward weeks) (directed forward days)
 
--- the sign is that of two against one; equal dates give all zeros
-unfoldable pub calendarDateUntil : IsoDate → IsoDate → DateUnit → DateDuration
+-- CalendarDateUntil: forward, backward, or nothing at all
+unfoldable pub calendarDateUntil : IsoDate → IsoDate → TemporalUnit → DateDuration
 calendarDateUntil one two unit =
     cond (isLater two one) (dateUntil true one two unit)
     (cond (isLater one two) (dateUntil false one two unit) (duration (pos 0) (pos 0) (pos 0) (pos 0)))

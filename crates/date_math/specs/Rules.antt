@@ -11,7 +11,7 @@ use Rattle.iso_date.specs.declared.IsoDate.{IsoDate}
 use Rattle.date_duration.specs.Proposal.{anyBelow, anyAbove}
 use Rattle.date_duration.specs.declared.DateDuration.{DateDuration}
 use Rattle.options.specs.declared.Overflow.the-variants.{Constrain}
-use Rattle.options.specs.declared.Unit.{Unit as DateUnit}
+use Rattle.options.specs.declared.Unit.{Unit as TemporalUnit}
 use Rattle.date_math.specs.Proposal.{isLater, inYears, movedBy, countsYears, countsMonths, countsWeeks}
 use Rattle.date_math.specs.Paper.{dateSum}
 
@@ -24,7 +24,7 @@ pub record Most (notPassed : ℤ → Bool) (n : ℤ) : Type 0 where
   pub stands : notPassed n ≡ true
   pub larger-pass : (k : ℤ) → natAbs n < natAbs k → notPassed k ≡ false
 
-pub record MeetsTheRules (one two : IsoDate) (unit : DateUnit) (r : DateDuration) : Type 0 where
+pub record MeetsTheRules (one two : IsoDate) (unit : TemporalUnit) (r : DateDuration) : Type 0 where
   pub no-years : countsYears unit ≡ false → r .years ≡ pos 0
   pub no-months : countsMonths unit ≡ false → r .months ≡ pos 0
   pub no-weeks : countsWeeks unit ≡ false → r .weeks ≡ pos 0

@@ -4,7 +4,6 @@
 use date_duration::DateDuration;
 use iso_date::DateResult;
 use iso_date::IsoDate;
-use iso_date::LimitResult;
 use iso_date::inner::MONTH_BIAS;
 use iso_date::inner::day_up;
 use iso_date::inner::month_start;
@@ -16,10 +15,9 @@ ghost use mathlib.Core.Path.{_≡_};
 ghost use mathlib.Core.Bool.{true};
 ghost use Prim.Native.Nat.{_+_, _-_, _*_, _/_, _^_, _<_, _≤_};
 ghost use lib.IntN.{pos, natAbs, _+ℤ_, _*ℤ_};
-ghost use Rattle.refusal.specs.Answer.{numberOf};
 ghost use Rattle.whole.specs.Whole.{_⊖_};
 ghost use Rattle.iso_date.specs.Proposal.{isValidISODate, epochDays};
-ghost use Rattle.iso_date.specs.Paper.{ofDate, ofLimit, regulateDate, dayToDate};
+ghost use Rattle.iso_date.specs.Paper.{ofDate, regulateDate, dayToDate};
 ghost use Rattle.iso_date.specs.Inner.{dayBias};
 ghost use Rattle.date_duration.specs.Proposal.{duration};
 ghost use Rattle.date_math.specs.Proposal.{movedBy, directed, restStart, calendarDateUntil};
@@ -34,16 +32,6 @@ const PLACES_PER_YEAR: u64 = 384;
 const PART_BIAS: u64 = 4_294_967_296;
 
 const DAYS_BIAS: u64 = 274_877_906_944;
-
-// The number that a limit test refuses with, 0 where it does not.
-pub fn refused_by(limit: LimitResult) -> u8
-    ensures { λ r. ⌜ r ≡ numberOf (ofLimit limit) ⌝ }
-{
-    match limit {
-        LimitResult::Within => 0,
-        LimitResult::Refused(n) => n,
-    }
-}
 
 // A date moved by years and months, the year clamped to 32 bits, and regulated.
 pub fn moved(date: IsoDate, years: i64, months: i64, overflow: Overflow) -> DateResult
@@ -73,7 +61,7 @@ pub fn add_days(date: IsoDate, weeks: i64, days: i64) -> DateResult
     ))
 }
 
-// The place of a date.
+// Places are compared where dates would be: their order is that of the triples.
 pub fn place(date: IsoDate) -> u64
     requires { ⌜ isValidISODate date ≡ true ⌝ }
     ensures { λ r. ⌜ (placeOf date ≡ r ⊖ placeBias) × ((2 ^ 41 ≤ r) × (r < 2 ^ 42)) ⌝ }
@@ -153,7 +141,7 @@ fn tried(unit: Unit, gap: u64, years: u64) -> Trial
     }
 }
 
-// A count of months moved on.
+// The month reached, forward or backward. So many months lie before every date that the count stays a natural.
 fn shifted(forward: bool, from: u64, months: u64) -> u64
     requires { ⌜ (months ≤ from) × (from < 2 ^ 60) ⌝ }
     ensures { λ r. ⌜ ((r ⊖ 0) ≡ (from ⊖ 0) +ℤ directed forward months) × (r ≤ from + months) ⌝ }
@@ -181,7 +169,7 @@ fn rest_start(date: IsoDate, forward: bool, months: u64) -> u64
     month_start(u, i) + iso_date::inner::clamp_to(most, date.day) as u64
 }
 
-// A size with its sign.
+// Counts are worked out as naturals; the sign of the whole difference is put to them last.
 pub fn signed(forward: bool, n: u64) -> i64
     requires { ⌜ n < 2 ^ 63 ⌝ }
     ensures { λ r. ⌜ r ≡ directed forward n ⌝ }
@@ -192,7 +180,7 @@ pub fn signed(forward: bool, n: u64) -> i64
     whole::inner::negated(n)
 }
 
-// The weeks of a rest of days.
+// Under every unit but week the rest stays days.
 fn weeks_of(unit: Unit, rest: u64) -> u64
     ensures { λ r. ⌜ (r ≡ weeksIn unit rest) × (7 * r ≤ rest) ⌝ }
 {
@@ -202,7 +190,7 @@ fn weeks_of(unit: Unit, rest: u64) -> u64
     0
 }
 
-// What was found as a duration.
+// The four counts take the same sign, so that no part opposes another.
 fn parts(forward: bool, found: Trial, weeks: u64, days: u64) -> DateDuration
     requires { ⌜ (((found .years) < 2 ^ 63) × ((found .months) < 2 ^ 63)) × ((weeks < 2 ^ 63) × (days < 2 ^ 63)) ⌝ }
     ensures { λ r. ⌜ r ≡ duration (directed forward (found .years)) (directed forward (found .months)) (directed forward weeks) (directed forward days) ⌝ }

@@ -20,7 +20,7 @@ pub fn add_date_duration(date: IsoDate, duration: DateDuration, overflow: Overfl
 {
     let checked = date.check_within_limits();
     let LimitResult::Within = checked else {
-        return DateResult::Refused(inner::refused_by(checked));
+        return DateResult::Refused(iso_date::inner::refused_by(checked));
     };
     if !duration.is_valid() {
         return DateResult::Refused(refusal::DURATION);
@@ -42,11 +42,11 @@ pub fn diff_iso_date(one: IsoDate, two: IsoDate, unit: Unit) -> DurationResult
 {
     let first = one.check_within_limits();
     let LimitResult::Within = first else {
-        return DurationResult::Refused(inner::refused_by(first));
+        return DurationResult::Refused(iso_date::inner::refused_by(first));
     };
     let second = two.check_within_limits();
     let LimitResult::Within = second else {
-        return DurationResult::Refused(inner::refused_by(second));
+        return DurationResult::Refused(iso_date::inner::refused_by(second));
     };
     if unit.rank() > 3 {
         return DurationResult::Refused(refusal::UNIT);

@@ -13,7 +13,7 @@ use Rattle.refusal.proofs.Answers.{given-inj, never}
 use Rattle.whole.specs.Whole.{_⊖_, fmod, clampZ}
 use Rattle.whole.proofs.Laws.{whole, ints, ⊖-same, size-of, range-of, read-add, read-diff, read-times}
 use Rattle.whole.proofs.Tests.{alike, both, and-false}
-use Rattle.iso_date.specs.Proposal.{date, leapYear, monthLengths, isoDaysInMonth, dayFromMonth, isoDateToEpochDays, epochDays, epochDaysToISODate, isValidISODate, balancedYear, constrainISODate, clampTo, momentWithinLimits, isoDateWithinLimits, noon, nsPerDay, nsLimit}
+use Rattle.iso_date.specs.Proposal.{date, leapYear, monthLengths, isoDaysInMonth, dayFromMonth, isoDateToEpochDays, epochDays, epochDaysToISODate, isValidISODate, balancedYear, constrainISODate, clampTo, nsWithinLimits, momentWithinLimits, isoDateWithinLimits, noon, nsPerDay, nsLimit}
 use Rattle.iso_date.specs.Paper.{monthLength, balanced, yearMonth, balanceYearMonth, dateToDay, dayToDate, regulateDate, makeDate, dateLimits, balanceDate}
 use Rattle.iso_date.specs.Inner.{yearBias, monthBias, dayBias, Balances}
 use Rattle.iso_date.specs.declared.IsoDate.{IsoDate}
@@ -58,7 +58,7 @@ module _ (n : ℤ) (ns : ℕ) where
   moment = pos nsPerDay *ℤ n +ℤ pos ns
 
   pub limits-in : negℤ (pos nsLimit) <ℤ moment → moment <ℤ pos nsLimit → momentWithinLimits n ns ≡ true
-  unfolding momentWithinLimits
+  unfolding nsWithinLimits
   limits-in a b =
       let t : ltZ (negℤ (pos nsLimit)) moment ≡ true = omega (arith, ints) in
       let s : ltZ moment (pos nsLimit) ≡ true = omega (arith, ints) in
@@ -66,19 +66,19 @@ module _ (n : ℤ) (ns : ℕ) where
 
   module _ (small : ns < nsPerDay) where
     pub limits-low : n <ℤ negℤ (pos 100000001) → momentWithinLimits n ns ≡ false
-    unfolding momentWithinLimits
+    unfolding nsWithinLimits
     limits-low h =
         let t : ltZ (negℤ (pos nsLimit)) moment ≡ false = omega (arith, ints, read-times nsPerDay n, read-add (pos nsPerDay *ℤ n) (pos ns)) in
         rw t
 
     pub limits-high : pos 100000000 <ℤ n → momentWithinLimits n ns ≡ false
-    unfolding momentWithinLimits
+    unfolding nsWithinLimits
     limits-high h =
         let t : ltZ moment (pos nsLimit) ≡ false = omega (arith, ints, read-times nsPerDay n, read-add (pos nsPerDay *ℤ n) (pos ns)) in
         rw t (and-false (ltZ (negℤ (pos nsLimit)) moment))
 
     pub limits-days : momentWithinLimits n ns ≡ true → (negℤ (pos 100000001) ≤ℤ n) × (n ≤ℤ pos 100000000)
-    unfolding momentWithinLimits
+    unfolding nsWithinLimits
     limits-days e =
         let b = both (ltZ (negℤ (pos nsLimit)) moment) (ltZ moment (pos nsLimit)) e in
         let t = read-times nsPerDay n in

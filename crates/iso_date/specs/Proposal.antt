@@ -45,21 +45,22 @@ dayFromMonth y m = dayFromYear y +ℤ pos (daysBeforeMonth (leapYear y) m)
 unfoldable pub isoDateToEpochDays : ℤ → ℤ → ℤ → ℤ
 isoDateToEpochDays y m d = dayFromMonth (y +ℤ fdiv m 12) (fmod m 12) +ℤ d -ℤ pos 1
 
--- The way back. ECMA-262's YearFromTime, the largest year whose first day is not after day n: one of the three around the mean of
--- 146,097 days in 400 years
+-- the year of day n by the mean of 146,097 days in 400 years
 abbrev pub meanYear : ℤ → ℤ
 meanYear n = pos 1970 +ℤ fdiv (pos 400 *ℤ n) 146097
 
+-- ECMA-262's YearFromTime, the largest year whose first day is not after day n: one of the three around the mean
 unfoldable pub yearFromDay : ℤ → ℤ
 yearFromDay n =
     cond (leZ (dayFromYear (meanYear n +ℤ pos 1)) n) (meanYear n +ℤ pos 1)
     (cond (leZ (dayFromYear (meanYear n)) n) (meanYear n) (meanYear n -ℤ pos 1))
 
--- of day n of a year, counted from 0, the month whose span holds it, counted from 1, and the day of the month
+-- of day n of a year, counted from 0, the month whose span holds it, counted from 1
 unfoldable pub monthOf : List ℕ → ℕ → ℕ
 monthOf [] n = 1
 monthOf (length ∷ lengths) n = cond (ltb n length) 1 (suc (monthOf lengths (n - length)))
 
+-- and the day of that month
 unfoldable pub dayOf : List ℕ → ℕ → ℕ
 dayOf [] n = suc n
 dayOf (length ∷ lengths) n = cond (ltb n length) (suc n) (dayOf lengths (n - length))
@@ -73,10 +74,11 @@ date y m d = record { year = y; month = m; day = d }
 abbrev pub epochDays : IsoDate → ℤ
 epochDays d = isoDateToEpochDays (d .year) (pos (d .month) -ℤ pos 1) (pos (d .day))
 
--- the date of a day number
+-- the date of day n of year y, counted from 0
 abbrev pub dateIn : ℤ → ℕ → IsoDate
 dateIn y n = date y (monthOf (monthLengths (leapYear y)) n) (dayOf (monthLengths (leapYear y)) n)
 
+-- the date of a day number: the way back of ISODateToEpochDays
 unfoldable pub epochDaysToISODate : ℤ → IsoDate
 epochDaysToISODate n = dateIn (yearFromDay n) (natAbs (n -ℤ dayFromYear (yearFromDay n)))
 
@@ -85,23 +87,25 @@ unfoldable pub isValidISODate : IsoDate → Bool
 isValidISODate d =
     (leb 1 (d .month) && leb (d .month) 12) && (leb 1 (d .day) && leb (d .day) (isoDaysInMonth (d .year) (d .month)))
 
--- BalanceISOYearMonth(y, m)
+-- BalanceISOYearMonth(y, m): the year
 abbrev pub balancedYear : ℤ → ℤ → ℤ
 balancedYear y m = y +ℤ fdiv (m -ℤ pos 1) 12
 
+-- and the month
 abbrev pub balancedMonth : ℤ → ℕ
 balancedMonth m = fmod (m -ℤ pos 1) 12 + 1
 
--- RegulateISODate under constrain: the month clamped to 1..12, then the day to the length of that month
+-- the number from 1 to high that is nearest to n
 abbrev pub clampTo : ℕ → ℕ → ℕ
 clampTo high n = min high (max 1 n)
 
+-- RegulateISODate under constrain: the month clamped to 1..12, then the day to the length of that month
 unfoldable pub constrainISODate : IsoDate → IsoDate
 constrainISODate d =
     date (d .year) (clampTo 12 (d .month)) (clampTo (isoDaysInMonth (d .year) (clampTo 12 (d .month))) (d .day))
 
--- ISODateTimeWithinLimits of a moment, a day number and a nanosecond of the day: strictly between the two moments that lie a day
--- beyond 10^8 days from the epoch
+-- ---- Limits
+
 abbrev pub nsPerDay : ℕ
 nsPerDay = 86_400_000_000_000
 
@@ -111,10 +115,14 @@ noon = 43_200_000_000_000
 abbrev pub nsLimit : ℕ
 nsLimit = 8_640_000_000_000_000_000_000 + nsPerDay
 
-unfoldable pub momentWithinLimits : ℤ → ℕ → Bool
-momentWithinLimits day ns =
-    ltZ (negℤ (pos nsLimit)) (pos nsPerDay *ℤ day +ℤ pos ns) && ltZ (pos nsPerDay *ℤ day +ℤ pos ns) (pos nsLimit)
+-- the exact nanoseconds since the epoch lie strictly between the two moments that are a day beyond 10^8 days from it
+unfoldable pub nsWithinLimits : ℤ → Bool
+nsWithinLimits ns = ltZ (negℤ (pos nsLimit)) ns && ltZ ns (pos nsLimit)
+
+-- ISODateTimeWithinLimits of a day number and a nanosecond of the day
+abbrev pub momentWithinLimits : ℤ → ℕ → Bool
+momentWithinLimits day ns = nsWithinLimits (pos nsPerDay *ℤ day +ℤ pos ns)
 
 -- ISODateWithinLimits: the same of the date at noon
 abbrev pub isoDateWithinLimits : IsoDate → Bool
-isoDateWithinLimits d = momentWithinLimits (epochDays d) noon
+isoDateWithinLimits d = nsWithinLimits (pos nsPerDay *ℤ epochDays d +ℤ pos noon)

@@ -2,15 +2,17 @@
 // day from the first day of that year; every year that a call can reach, and every day count that matters, is then a natural.
 use crate::DateResult;
 use crate::IsoDate;
+use crate::LimitResult;
 ghost use mathlib.Core.Path.{_≡_};
 ghost use mathlib.Core.Bool.{cond};
 ghost use Prim.Native.Nat.{_+_, _-_, _*_, _<_, _≤_, _^_};
 ghost use lib.ListN.{getD};
 ghost use mathlib.Core.Bool.{true};
 ghost use lib.IntN.{pos, negℤ, natAbs, _+ℤ_};
+ghost use Rattle.refusal.specs.Answer.{numberOf};
 ghost use Rattle.whole.specs.Whole.{_⊖_, clampZ};
 ghost use Rattle.iso_date.specs.Proposal.{leapYear, monthLengths, isoDaysInMonth, daysBeforeMonth, dayFromMonth, isValidISODate, epochDays, epochDaysToISODate, isoDateWithinLimits, clampTo};
-ghost use Rattle.iso_date.specs.Paper.{ofDate, balanceDate};
+ghost use Rattle.iso_date.specs.Paper.{ofDate, ofLimit, balanceDate};
 ghost use Rattle.iso_date.specs.Inner.{yearBias, monthBias, dayBias, yearStart, YearHolds, MonthHolds, Balances};
 
 pub const YEAR_BIAS: u64 = 8_000_000_000;
@@ -20,6 +22,19 @@ pub const DAY_BIAS: u64 = 2_921_940_719_528;
 // As many months as lie in 400,000,000 years, so that a month of 32 bits, or one moved by a duration, is a natural.
 pub const MONTH_BIAS: u64 = 4_800_000_000;
 
+// A day count is balanced from the first of these to the last.
+pub const FIRST_BALANCED: i64 = -100_000_001;
+
+pub const LAST_BALANCED: i64 = 100_000_001;
+
+// Past these no month's first day and no carry brings a day back into the balanced range.
+const FAR_BEFORE: i64 = -1_000_000_000_000_000_000;
+
+const FAR_AFTER: i64 = 1_000_000_000_000_000_000;
+
+// A day between them is a natural when this is added.
+const FAR_BIAS: u64 = 1_000_000_000_000_000_000;
+
 // More than any carry of a balanced time.
 const CARRY_BIAS: u64 = 4_503_599_627_370_496;
 
@@ -28,7 +43,7 @@ const MONTH_LENGTHS: [u8; 12] = [31, 28, 31, 30, 31, 30, 31, 31, 30, 31, 30, 31]
 // The days of a common year before each of its months.
 const DAYS_BEFORE: [u16; 12] = [0, 31, 59, 90, 120, 151, 181, 212, 243, 273, 304, 334];
 
-// A year as a natural.
+// 32 bits hold every year that a call is given; its leap years fall where those of the year itself do.
 pub fn year_up(year: i32) -> u64
     ensures { λ r. ⌜ (year ≡ r ⊖ yearBias) × ((r < 2 ^ 31 + yearBias) × (yearBias ≤ r + 2 ^ 31)) ⌝ }
 {
@@ -178,7 +193,7 @@ pub fn year_down(u: u64) -> i32
     whole::inner::lower32(u, YEAR_BIAS)
 }
 
-// The length of a month.
+// The length of a month of a year as it is given, which the leap rule wants as a natural.
 pub fn days_in_month(year: i32, month: u8) -> u8
     requires { ⌜ (1 ≤ month) × (month ≤ 12) ⌝ }
     ensures { λ r. ⌜ (r ≡ isoDaysInMonth year month) × (r ≤ 31) ⌝ }
@@ -224,10 +239,20 @@ pub fn within_limits(date: IsoDate) -> bool
     ensures { λ r. ⌜ r ≡ isoDateWithinLimits date ⌝ }
 {
     let day = epoch_days(date);
-    if day < -100_000_001 {
+    if day < FIRST_BALANCED {
         return false;
     }
     day <= 100_000_000
+}
+
+// The number that a limit test refuses with, 0 where it does not.
+pub fn refused_by(limit: LimitResult) -> u8
+    ensures { λ r. ⌜ r ≡ numberOf (ofLimit limit) ⌝ }
+{
+    match limit {
+        LimitResult::Within => 0,
+        LimitResult::Refused(n) => n,
+    }
 }
 
 // The date of any year, month and day with a carry of days, by the exact day count; 4 past the balanced range.
@@ -237,18 +262,12 @@ pub fn balance_sum(year: i32, month: i32, day: i64, carry: i64) -> DateResult
 {
     let b = balance_up(year_up(year), month_up(month));
     let first = month_start(b.year, b.index);
-    // Past this no month's first day brings the sum back into the balanced range; within it the sum is a natural.
-    if day < -1_000_000_000_000_000_000 {
+    if day < FAR_BEFORE {
         return DateResult::Refused(refusal::DAY_COUNT);
     }
-    if day > 1_000_000_000_000_000_000 {
+    if day > FAR_AFTER {
         return DateResult::Refused(refusal::DAY_COUNT);
     }
-    let sum = first
-        + (whole::inner::raise(day, 1_000_000_000_000_000_000)
-            + whole::inner::raise(carry, CARRY_BIAS));
-    IsoDate::from_epoch_days(whole::inner::lower(
-        sum,
-        DAY_BIAS + (1_000_000_000_000_000_000 + CARRY_BIAS + 1),
-    ))
+    let sum = first + (whole::inner::raise(day, FAR_BIAS) + whole::inner::raise(carry, CARRY_BIAS));
+    IsoDate::from_epoch_days(whole::inner::lower(sum, DAY_BIAS + (FAR_BIAS + CARRY_BIAS + 1)))
 }

@@ -52,30 +52,6 @@ pub fn iso_days_in_month(year: i32, month: u8) -> MonthLength
     MonthLength::Days(inner::days_in_month(year, month))
 }
 
-// The year and month that a month of any number is; the year is clamped to 32 bits.
-pub fn balance_iso_year_month(year: i32, month: i32) -> YearMonth
-    ensures { λ r. ⌜ r ≡ balanceYearMonth year month ⌝ }
-{
-    let b = inner::balance_up(inner::year_up(year), inner::month_up(month));
-    YearMonth {
-        year: inner::year_down(b.year),
-        month: (b.index + 1) as u8,
-    }
-}
-
-// The fields with the month, then the day, moved to the nearest that is valid.
-fn constrain(year: i32, month: u8, day: u8) -> IsoDate
-    ensures { λ r. ⌜ (r ≡ constrainISODate (date year month day)) × (isValidISODate r ≡ true) ⌝ }
-{
-    let m = inner::clamp_to(12, month);
-    let most = inner::days_in_month(year, m);
-    IsoDate {
-        year,
-        month: m,
-        day: inner::clamp_to(most, day),
-    }
-}
-
 impl IsoDate {
     // Whether the month exists and has the day.
     pub fn is_valid(self) -> bool
@@ -103,10 +79,10 @@ impl IsoDate {
             return DayResult::Refused(refusal::FIELD);
         }
         let day = inner::epoch_days(self);
-        if day < -100_000_001 {
+        if day < inner::FIRST_BALANCED {
             return DayResult::Refused(refusal::DAY_COUNT);
         }
-        if day > 100_000_001 {
+        if day > inner::LAST_BALANCED {
             return DayResult::Refused(refusal::DAY_COUNT);
         }
         DayResult::Day(day)
@@ -116,16 +92,42 @@ impl IsoDate {
     pub fn from_epoch_days(day: i64) -> DateResult
         ensures { λ r. ⌜ ofDate r ≡ dayToDate day ⌝ }
     {
-        if day < -100_000_001 {
+        if day < inner::FIRST_BALANCED {
             return DateResult::Refused(refusal::DAY_COUNT);
         }
-        if day > 100_000_001 {
+        if day > inner::LAST_BALANCED {
             return DateResult::Refused(refusal::DAY_COUNT);
         }
         let n = whole::inner::raise(day, inner::DAY_BIAS);
         DateResult::Date(inner::civil(n))
     }
+}
 
+// The year and month that a month of any number is; the year is clamped to 32 bits.
+pub fn balance_iso_year_month(year: i32, month: i32) -> YearMonth
+    ensures { λ r. ⌜ r ≡ balanceYearMonth year month ⌝ }
+{
+    let b = inner::balance_up(inner::year_up(year), inner::month_up(month));
+    YearMonth {
+        year: inner::year_down(b.year),
+        month: (b.index + 1) as u8,
+    }
+}
+
+// The fields with the month, then the day, moved to the nearest that is valid.
+fn constrain(year: i32, month: u8, day: u8) -> IsoDate
+    ensures { λ r. ⌜ (r ≡ constrainISODate (date year month day)) × (isValidISODate r ≡ true) ⌝ }
+{
+    let m = inner::clamp_to(12, month);
+    let most = inner::days_in_month(year, m);
+    IsoDate {
+        year,
+        month: m,
+        day: inner::clamp_to(most, day),
+    }
+}
+
+impl IsoDate {
     // The fields made valid: constrained, or 1 under reject where they are not. The limits are not tested.
     pub fn regulate(year: i32, month: u8, day: u8, overflow: Overflow) -> DateResult
         ensures { λ r. ⌜ ofDate r ≡ regulateDate (date year month day) overflow ⌝ }

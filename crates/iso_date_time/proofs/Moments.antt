@@ -12,7 +12,7 @@ use Rattle.refusal.specs.Answer.{given, refused, check}
 use Rattle.refusal.proofs.Answers.{given-inj, never}
 use Rattle.whole.proofs.Tests.{alike}
 use Rattle.whole.proofs.Laws.{ints, size-of, range-of, read-add, read-times}
-use Rattle.iso_date.specs.Proposal.{epochDaysToISODate, isoDateToEpochDays, isValidISODate, momentWithinLimits, nsPerDay, nsLimit}
+use Rattle.iso_date.specs.Proposal.{epochDaysToISODate, isoDateToEpochDays, isValidISODate, nsWithinLimits, momentWithinLimits, nsPerDay, nsLimit}
 use Rattle.iso_date.specs.Paper.{balanced, balanceDate, dayToDate}
 use Rattle.iso_date.specs.declared.IsoDate.{IsoDate}
 use Rattle.iso_date.proofs.Answers.{limits-in}
@@ -36,7 +36,7 @@ module _ (n : ℤ) (ns : ℕ) (small : ns < nsPerDay) where
 
   -- on the first day of all, midnight lies outside
   pub first-day : negℤ (pos 100000001) ≤ℤ n → n <ℤ negℤ (pos 100000000) → ltb 0 ns ≡ momentWithinLimits n ns
-  unfolding momentWithinLimits
+  unfolding nsWithinLimits
   first-day a b =
       let t = read-times nsPerDay n in
       let s = read-add (pos nsPerDay *ℤ n) (pos ns) in

@@ -30,8 +30,8 @@ use Rattle.options.specs.declared.Unit.{Unit as AnyUnit}
 use Rattle.options.specs.declared.Unit.the-variants as U
 use Rattle.options.specs.Units.{unitRank}
 use Rattle.date_math.specs.Proposal.{directed}
+use Rattle.date_math.specs.Claims.{Ahead}
 use Rattle.date_math.specs.Inner.{apart}
-use Rattle.date_math.proofs.Rest.{Ahead}
 use Rattle.date_math.proofs.Theorems.{parts-ahead}
 use Rattle.iso_date_time.specs.Proposal.{dateTime, epochNanoseconds, isoDateTimeWithinLimits, movedDays, atLeastDay, belowDay, joined, differenceISODateTime}
 use Rattle.iso_date_time.specs.Paper.{dateTimeLimits, roundDateTime, dateTimeDifference}

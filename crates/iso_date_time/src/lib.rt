@@ -89,7 +89,7 @@ impl IsoDateTime {
     {
         let checked = self.check_within_limits();
         let LimitResult::Within = checked else {
-            return DateTimeResult::Refused(date_math::inner::refused_by(checked));
+            return DateTimeResult::Refused(iso_date::inner::refused_by(checked));
         };
         let time = self.time;
         let rounded = time.round(unit, increment, mode);
@@ -111,11 +111,11 @@ impl IsoDateTime {
     {
         let first = self.check_within_limits();
         let LimitResult::Within = first else {
-            return DifferenceResult::Refused(date_math::inner::refused_by(first));
+            return DifferenceResult::Refused(iso_date::inner::refused_by(first));
         };
         let second = other.check_within_limits();
         let LimitResult::Within = second else {
-            return DifferenceResult::Refused(date_math::inner::refused_by(second));
+            return DifferenceResult::Refused(iso_date::inner::refused_by(second));
         };
         DifferenceResult::Difference(inner::difference(self, other, unit))
     }

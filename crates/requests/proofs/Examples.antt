@@ -5,7 +5,7 @@ use mathlib.Core.List.{List, [], _∷_}
 use lib.IntN.{ℤ, pos, negℤ}
 use Rattle.refusal.specs.Answer.{Answer, given, refused}
 use Rattle.whole.specs.Whole.{fdiv, fmod, clampZ}
-use Rattle.iso_date.specs.Proposal.{date, dayFromYear, leapYear, monthLengths, isoDaysInMonth, daysBeforeMonth, dayFromMonth, isoDateToEpochDays, isValidISODate, yearFromDay, monthOf, dayOf, epochDaysToISODate, constrainISODate, momentWithinLimits}
+use Rattle.iso_date.specs.Proposal.{date, dayFromYear, leapYear, monthLengths, isoDaysInMonth, daysBeforeMonth, dayFromMonth, isoDateToEpochDays, isValidISODate, yearFromDay, monthOf, dayOf, epochDaysToISODate, constrainISODate, nsWithinLimits}
 use Rattle.iso_date.specs.Paper.{balanced, dateToDay, dayToDate, dateLimits, regulateDate, makeDate}
 use Rattle.iso_date.specs.declared.IsoDate.{IsoDate}
 use Rattle.rounding.specs.Proposal.{getUnsignedRoundingMode, applyUnsignedRoundingMode, roundQuotient, roundNumberToIncrement, roundNumberToIncrementAsIfPositive}
@@ -13,7 +13,7 @@ use Rattle.rounding.specs.Paper.{inSigned64, roundNumber, roundNumberAsIfPositi
 use Rattle.iso_time.specs.Proposal.{isValidTime, balanceTime, nanoseconds, unitLength, quantity, roundedUnits, roundTime, dividend, validIncrement}
 use Rattle.iso_time.specs.Paper.{allBounded, balanceTimeFields, roundedTime}
 use Rattle.date_duration.specs.Proposal.{anyBelow, anyAbove, small, smallDays, allSmall, isValidDuration}
-use Rattle.date_math.specs.Proposal.{movedBy, isLater, kept, yearsUntil, monthsUntil, restStart, daysUntil, yearsFound, monthsFound, weeksFound, restFound, dateUntil, calendarDateUntil}
+use Rattle.date_math.specs.Proposal.{movedBy, isLater, kept, yearsUntil, monthsUntil, restStart, daysUntil, yearsFound, monthsFound, weeksFound, dateUntil, calendarDateUntil}
 use Rattle.date_math.specs.Paper.{sumSteps, dateSum, dateDifference}
 use Rattle.date_math.specs.Inner.{placeOf, yearsIn, monthsIn, weeksIn}
 use Rattle.date_math.proofs.Theorems.{always-given}
@@ -69,7 +69,7 @@ table =
 -- the whole span of the calendar: the candidates are too many to be tried one by one here, so the difference is taken in closed form
 whole-span : meaningOf C.DateDifference (negℤ (pos 271821) ∷ pos 4 ∷ pos 19 ∷ pos 275760 ∷ pos 9 ∷ pos 13 ∷ pos 0 ∷ []) ≡
     given (pos 547581 ∷ pos 4 ∷ pos 0 ∷ pos 25 ∷ [])
-unfolding meaningOf placeOf yearsIn monthsIn weeksIn fdiv fmod dayFromYear leapYear monthLengths isoDaysInMonth daysBeforeMonth dayFromMonth isoDateToEpochDays isValidISODate constrainISODate momentWithinLimits movedBy restStart
+unfolding meaningOf placeOf yearsIn monthsIn weeksIn fdiv fmod dayFromYear leapYear monthLengths isoDaysInMonth daysBeforeMonth dayFromMonth isoDateToEpochDays isValidISODate constrainISODate nsWithinLimits movedBy restStart
 whole-span =
     let one : IsoDate = date (negℤ (pos 271821)) 4 19 in
     let two : IsoDate = date (pos 275760) 9 13 in
@@ -78,6 +78,6 @@ whole-span =
     ap given (difference-is true one two U.Year refl refl 210271258 25 refl refl))
 
 pub every-row : Holds table
-unfolding meaningOf fdiv fmod clampZ dayFromYear leapYear monthLengths isoDaysInMonth daysBeforeMonth dayFromMonth isoDateToEpochDays isValidISODate yearFromDay monthOf dayOf epochDaysToISODate constrainISODate momentWithinLimits balanced dateToDay dayToDate dateLimits regulateDate makeDate getUnsignedRoundingMode applyUnsignedRoundingMode roundQuotient roundNumberToIncrement roundNumberToIncrementAsIfPositive inSigned64 roundNumber roundNumberAsIfPositive isValidTime balanceTime nanoseconds unitLength quantity roundedUnits roundTime dividend validIncrement allBounded balanceTimeFields roundedTime anyBelow anyAbove small smallDays allSmall isValidDuration movedBy isLater kept yearsUntil monthsUntil restStart daysUntil yearsFound monthsFound weeksFound restFound dateUntil calendarDateUntil sumSteps dateSum dateDifference
+unfolding meaningOf fdiv fmod clampZ dayFromYear leapYear monthLengths isoDaysInMonth daysBeforeMonth dayFromMonth isoDateToEpochDays isValidISODate yearFromDay monthOf dayOf epochDaysToISODate constrainISODate nsWithinLimits balanced dateToDay dayToDate dateLimits regulateDate makeDate getUnsignedRoundingMode applyUnsignedRoundingMode roundQuotient roundNumberToIncrement roundNumberToIncrementAsIfPositive inSigned64 roundNumber roundNumberAsIfPositive isValidTime balanceTime nanoseconds unitLength quantity roundedUnits roundTime dividend validIncrement allBounded balanceTimeFields roundedTime anyBelow anyAbove small smallDays allSmall isValidDuration movedBy isLater kept yearsUntil monthsUntil restStart daysUntil yearsFound monthsFound weeksFound dateUntil calendarDateUntil sumSteps dateSum dateDifference
 every-row =
     (refl, (refl, (refl, (refl, (refl, (refl, (refl, (refl, (refl, (refl, (refl, (refl, (refl, (refl, (whole-span, (refl, (refl, tt)))))))))))))))))

@@ -1,7 +1,6 @@
 -- What the functions of `inner` do to a number at the edge, over plain variables: each proof there cites these.
 -- Assumes nothing.
-use Prim.Native.Nat.{ℕ, zero, suc, _+_, _-_, _/_, _%_, _≤_, _<_, _^_}
-use native.Mathlib.Nat.{div-le-self, mod-lt}
+use Prim.Native.Nat.{ℕ, zero, suc, _+_, _-_, _≤_, _<_, _^_}
 use native.Mathlib.Numerals.{add-one}
 use native.Mathlib.Omega.{arith}
 use mathlib.Core.Path.{_≡_, refl, sym, _∙_, ap}
@@ -11,7 +10,7 @@ use lib.IntN.{ℤ, pos, negsuc, negℤ, natAbs, _+ℤ_, _-ℤ_}
 use lib.Signed.{ltZ, _≤ℤ_, _<ℤ_, nonNeg, yes-nonNeg, pos-natAbs}
 use mir.Syntax.{w32, w64}
 use mir.Val.{SFits, Fits}
-use Rattle.whole.specs.Whole.{_⊖_, fdiv, fmod, clampZ}
+use Rattle.whole.specs.Whole.{_⊖_, clampZ}
 use Rattle.whole.proofs.Laws.{up, ints, whole, read-add, read-diff, read-neg, range-of, size-of}
 
 pub nat-of : (z : ℤ) → pos 0 ≤ℤ z → natAbs z ≡ up z
@@ -92,29 +91,6 @@ minus-is n = simp whole (omega arith)
 
 pub minus-fits : (n : ℕ) → n < 2 ^ 63 → SFits w64 (negsuc 0 -ℤ pos n)
 minus-fits n h = simp whole (omega arith)
-
--- division, on either side of zero
-pub small-div : (n d m : ℕ) → n < m → n / d < m
-small-div n d m h = omega (arith, div-le-self n d)
-
-pub small-mod : (n d : ℕ) → 0 < d → n % d ≤ d - 1
-small-mod n d h = omega (arith, mod-lt n h)
-
-pub fdiv-above : (x : ℤ) (n d : ℕ) → x ≡ pos n → pos (n / d) ≡ fdiv x d
-unfolding fdiv
-fdiv-above x n d e = rw e
-
-pub fdiv-below : (x : ℤ) (n d : ℕ) → x ≡ negsuc n → negsuc (n / d) ≡ fdiv x d
-unfolding fdiv
-fdiv-below x n d e = rw e
-
-pub fmod-above : (x : ℤ) (n d : ℕ) → 0 < d → x ≡ pos n → (n % d ≡ fmod x d) × (n % d < d)
-unfolding fmod
-fmod-above x n d h e = rw e (refl, mod-lt n h)
-
-pub fmod-below : (x : ℤ) (n d : ℕ) → 0 < d → x ≡ negsuc n → (d - 1 - n % d ≡ fmod x d) × (d - 1 - n % d < d)
-unfolding fmod
-fmod-below x n d h e = rw e (omega (arith, mod-lt n h), omega (arith, mod-lt n h))
 
 -- the three ways of a clamp
 pub clamp-low : (x low high : ℤ) → x <ℤ low → low ≡ clampZ x low high

@@ -67,10 +67,6 @@ pub read-diff : (m n : ℕ) → up (m ⊖ n) + n ≡ dn (m ⊖ n) + m
 read-diff m n =
     ⊎-elim (λ h. rw (⊖-low m n h) (omega arith)) (λ h. rw (⊖-high m n h) (omega arith)) (split m n)
 
--- what holds of every difference holds of every number
-pub by-parts {ℓ} : (P : ℤ → Type ℓ) → ((a b : ℕ) → P (a ⊖ b)) → (z : ℤ) → P z
-by-parts P f z = subst P (sym (parts z)) (f (up z) (dn z))
-
 -- ---- sums, products, negation
 
 sum-parts : (x y : ℤ) → x +ℤ y ≡ (up x + up y) ⊖ (dn x + dn y)
@@ -325,9 +321,6 @@ size-of (negsuc n) = omega arith
 pub size-neg : (n : ℕ) → natAbs (negℤ (pos n)) ≡ n
 size-neg zero = refl
 size-neg (suc n) = refl
-
-pub bits-eq : (w : Width) (x y : ℤ) → SFits w x → SFits w y → ofZ w x ≡ ofZ w y → x ≡ y
-bits-eq w x y f g e = sym (toZ-ofZ f) ∙ ap (toZ w) e ∙ toZ-ofZ g
 
 -- ---- the same of two differences, for `simp`
 

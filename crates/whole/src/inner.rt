@@ -1,9 +1,9 @@
-// The way from a signed number to a natural and back, and division rounded down.
+// Each function asks of its caller that what it gives back fits, and says what that is as a whole number.
 ghost use mathlib.Core.Path.{_≡_};
 ghost use Prim.Native.Nat.{_+_, _<_, _≤_, _^_};
 ghost use lib.IntN.{pos, negsuc, negℤ};
 ghost use lib.Signed.{_≤ℤ_, _<ℤ_};
-ghost use Rattle.whole.specs.Whole.{_⊖_, fdiv, fmod};
+ghost use Rattle.whole.specs.Whole.{_⊖_};
 
 // x + k, a natural.
 pub fn raise(x: i64, k: u64) -> u64
@@ -67,28 +67,6 @@ pub fn minus(n: u64) -> i64
     ensures { λ r. ⌜ r ≡ negsuc n ⌝ }
 {
     -1 - n as i64
-}
-
-// ⌊x / d⌋
-pub fn floor_div(x: i64, d: u64) -> i64
-    requires { ⌜ 0 < d ⌝ }
-    ensures { λ r. ⌜ r ≡ fdiv x d ⌝ }
-{
-    if x < 0 {
-        return minus(below(x) / d);
-    }
-    plus(above(x) / d)
-}
-
-// x mod d, from 0 to d - 1
-pub fn floor_mod(x: i64, d: u64) -> u64
-    requires { ⌜ 0 < d ⌝ }
-    ensures { λ r. ⌜ (r ≡ fmod x d) × (r < d) ⌝ }
-{
-    if x < 0 {
-        return d - 1 - below(x) % d;
-    }
-    above(x) % d
 }
 
 // -n, for an n up to 2^63.
