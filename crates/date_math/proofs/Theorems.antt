@@ -367,7 +367,7 @@ module _ (one two : IsoDate) (unit : TemporalUnit) (one-valid : isValidISODate o
       let g = fine two two-valid two-within in
       in-some-direction one two (λ forward gap far. only-answer one two unit f g forward gap far r m ∙ sym (answer-is one two unit f g forward gap far))
 
-  -- together, of what is given: a difference is given, and it is the one record that meets the rules
+  -- together, of what is given: it is a record just where that record meets the rules
   pub demand-3 : isDateUnit unit ≡ true → (r : DateDuration) → (dateDifference one two unit ≡ given r) ↔ MeetsTheRules one two unit r
   demand-3 u r = (
     (λ e. subst (λ (s : DateDuration). MeetsTheRules one two unit s) (given-inj (calendarDateUntil one two unit) r (sym (always-given u) ∙ e)) meets-the-rules),

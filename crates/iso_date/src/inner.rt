@@ -43,7 +43,7 @@ const MONTH_LENGTHS: [u8; 12] = [31, 28, 31, 30, 31, 30, 31, 31, 30, 31, 30, 31]
 // The days of a common year before each of its months.
 const DAYS_BEFORE: [u16; 12] = [0, 31, 59, 90, 120, 151, 181, 212, 243, 273, 304, 334];
 
-// 32 bits hold every year that a call is given; its leap years fall where those of the year itself do.
+// Raised so, every year of 32 bits is a natural, and a leap year by the same rule.
 pub fn year_up(year: i32) -> u64
     ensures { λ r. ⌜ (year ≡ r ⊖ yearBias) × ((r < 2 ^ 31 + yearBias) × (yearBias ≤ r + 2 ^ 31)) ⌝ }
 {
