@@ -16,12 +16,14 @@ use Rattle.iso_date.specs.Proposal.{epochDaysToISODate, isoDateToEpochDays, isV
 use Rattle.iso_date.specs.Paper.{balanced, balanceDate, dayToDate}
 use Rattle.iso_date.specs.declared.IsoDate.{IsoDate}
 use Rattle.iso_date.proofs.Answers.{limits-in}
+use Rattle.iso_date.proofs.Dates.{back-valid}
 use Rattle.iso_time.specs.Proposal.{isValidTime, balanceTime, nanoseconds}
 use Rattle.iso_time.specs.Paper.{allBounded, balanceTimeFields}
 use Rattle.iso_time.specs.declared.BalancedTime.{BalancedTime}
 use Rattle.iso_time.specs.Claims.{flat}
 use Rattle.iso_time.proofs.Times.{below-day, balance-exact, balance-valid}
 use Rattle.iso_time.proofs.Checks.{all-within}
+use Rattle.iso_time.proofs.Theorems.{balance-is-valid}
 use Rattle.iso_date_time.specs.Proposal.{dateTime, isoDateTimeWithinLimits, balanceISODateTime}
 use Rattle.iso_date_time.specs.Paper.{dateTimeLimits, balanceDateTime}
 use Rattle.iso_date_time.specs.declared.IsoDateTime.{IsoDateTime}
@@ -167,3 +169,13 @@ module _ (y m d h mi s ms us ns : ℤ) where
       let g = check-given (allBounded h mi s ms us ns) 7 (balanceTime h mi s ms us ns) b e in
       let k = check-given (balanced (dayOn b)) 4 (epochDaysToISODate (dayOn b)) c f in
       rw (g .0, k .1, g .1, rw (g .1) at (k .0))
+
+  -- what balancing gives has valid fields, wherever it lies
+  pub balanced-is-valid : (r : IsoDateTime) → given r ≡ balanceDateTime y m d h mi s ms us ns →
+      (isValidISODate (r .date) ≡ true) × (isValidTime (r .time) ≡ true)
+  unfolding balanceDateTime balanceISODateTime
+  balanced-is-valid r e =
+      let b : BalancedTime = balanceTime h mi s ms us ns in
+      let f = check-passed (allBounded h mi s ms us ns) 7 _ r (sym e) in
+      let g = check-passed (balanced (dayOn b)) 4 _ r (f .1) in
+      rw (← given-inj _ r (g .1)) (back-valid (dayOn b), balance-is-valid h mi s ms us ns)

@@ -61,7 +61,7 @@ movedDays one two =
     let span : ℤ = nanosecondsUntil (one .time) (two .time) in
     cond (opposed span (compareISODate (two .date) (one .date))) (signOf span) (pos 0)
 
--- the time difference, moved by a day the other way
+-- the time difference, with those days moved the other way
 abbrev pub timeLeft : IsoDateTime → IsoDateTime → ℤ
 timeLeft one two = nanosecondsUntil (one .time) (two .time) -ℤ pos nsPerDay *ℤ movedDays one two
 
@@ -78,7 +78,8 @@ joined true d ns =
     record { date = duration (d .years) (d .months) (d .weeks) (pos 0); time = inSeconds (ns +ℤ pos nsPerDay *ℤ d .days) }
 joined false d ns = record { date = d; time = inSeconds ns }
 
--- DifferenceISODateTime(one, two, largest unit)
+-- DifferenceISODateTime(one, two, largest unit): the difference of the dates under the larger of day and the unit, two's date moved,
+-- and the time that is left
 unfoldable pub differenceISODateTime : IsoDateTime → IsoDateTime → TemporalUnit → InternalDurationRecord
 differenceISODateTime one two unit =
     joined (belowDay unit)
