@@ -21,7 +21,7 @@ use Rattle.iso_time.specs.declared.TimeDuration.{TimeDuration}
 use Rattle.iso_time.proofs.Times.{read-valid, below-day}
 use Rattle.date_duration.specs.Proposal.{duration}
 use Rattle.date_duration.specs.declared.DateDuration.{DateDuration}
-use Rattle.options.specs.declared.Unit.{Unit as AnyUnit}
+use Rattle.options.specs.declared.Unit.{Unit as TemporalUnit}
 use Rattle.options.specs.Units.{unitRank}
 use Rattle.date_math.specs.Proposal.{directed, calendarDateUntil}
 use Rattle.date_math.specs.Inner.{apart}
@@ -111,7 +111,7 @@ together forward n ns =
     let e : ns + nsPerDay * n ≡ nsPerDay * n + ns = omega arith in
     ap (λ (z : ℤ). directed forward ns +ℤ z) (directed-times forward nsPerDay n) ∙ directed-add forward ns (nsPerDay * n) ∙ ap (directed forward) e
 
-module _ (one two : IsoDateTime) (unit : AnyUnit) (p day : ℕ) (forward : Bool) (ns rank : ℕ) (t : Placed one two p day forward ns)
+module _ (one two : IsoDateTime) (unit : TemporalUnit) (p day : ℕ) (forward : Bool) (ns rank : ℕ) (t : Placed one two p day forward ns)
     (is : rank ≡ unitRank unit) where
   -- down to the day the dates are counted under the unit, and the time that is left stands beside them
   pub dates-and-time : (d : DateDuration) (s : TimeDuration) → rank ≤ 3 →
@@ -138,7 +138,7 @@ module _ (one two : IsoDateTime) (unit : AnyUnit) (p day : ℕ) (forward : Bool)
 
 -- ---- one law for each way through the checks
 
-module _ (one two : IsoDateTime) (unit : AnyUnit) where
+module _ (one two : IsoDateTime) (unit : TemporalUnit) where
   pub first-refused : (checked : Answer (Unit {0})) (n r : ℕ) → checked ≡ refused n → r ≡ numberOf checked → checked ≡ dateTimeLimits one →
       refused r ≡ dateTimeDifference one two unit
   unfolding dateTimeDifference

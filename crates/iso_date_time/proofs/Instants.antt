@@ -20,7 +20,8 @@ use Rattle.iso_date.proofs.Dates.{back-valid, back-and-there}
 use Rattle.iso_time.specs.Proposal.{balanced, balanceTime, nanoseconds, isValidTime}
 use Rattle.iso_time.specs.declared.IsoTime.{IsoTime}
 use Rattle.iso_time.specs.declared.BalancedTime.{BalancedTime}
-use Rattle.iso_time.proofs.Times.{exact, flat, timeAt, time-at-is, read-valid}
+use Rattle.iso_time.specs.Claims.{exact, flat}
+use Rattle.iso_time.proofs.Times.{timeAt, time-at-is}
 use Rattle.iso_time.proofs.Theorems.{balance-keeps, balance-is-valid, balance-is-one}
 use Rattle.iso_date_time.specs.Proposal.{dateTime, epochNanoseconds, isoDateTimeWithinLimits, balanceISODateTime, getISOPartsFromEpoch, withOffset}
 use Rattle.iso_date_time.specs.Paper.{dateTimeLimits, isInstant, isOffset, fromInstant}
@@ -169,7 +170,7 @@ parts-are day a h =
     let t = time-at-is a h in
     let same : exact (balanced (pos 0) (timeAt a)) ≡ flat (pos 0) (pos 0) (pos 0) (pos 0) (pos 0) (pos a) = rw (t .0) in
     ap (λ (b : BalancedTime). dateTime (epochDaysToISODate day) (b .time))
-    (sym (balance-is-one (pos 0) (pos 0) (pos 0) (pos 0) (pos 0) (pos a) (balanced (pos 0) (timeAt a)) (read-valid (timeAt a) (t .1)) same))
+    (sym (balance-is-one (pos 0) (pos 0) (pos 0) (pos 0) (pos 0) (pos a) (balanced (pos 0) (timeAt a)) (t .1) same))
 
 module _ (day : ℤ) (a : ℕ) (z : ℤ) (h : a < nsPerDay) where
   record-is : withOffset (getISOPartsFromEpoch day a) z ≡
@@ -212,7 +213,7 @@ instant-is day ns offset r a b d t i o e f g x y v =
     omega (arith, ints, some, read-diff r dayBias, read-diff ((a + b) / nsPerDay) 1, read-add day q, read-diff (r + (a + b) / nsPerDay - 1) dayBias) in
     let sum : exact (balanced q t) ≡ pos a +ℤ offset = rw (y, g) (simp whole (omega arith)) in
     let same : balanced q t ≡ moved (timeAt a) offset =
-    balance-is-one _ _ _ _ _ _ (balanced q t) (read-valid t v) (sum ∙ sym (flat-is day a offset small)) in
+    balance-is-one _ _ _ _ _ _ (balanced q t) v (sum ∙ sym (flat-is day a offset small)) in
     rw f
     (ap (λ (c : IsoDate). dateTime c t) (x ∙ ap epochDaysToISODate count) ∙
     ap (λ (c : BalancedTime). dateTime (epochDaysToISODate (day +ℤ c .days)) (c .time)) same ∙ sym (record-is day a offset small))

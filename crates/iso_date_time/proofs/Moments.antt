@@ -8,7 +8,7 @@ use borrow.Author.Tests.{ltb-true, ltb-false}
 use lib.Dec.{ltb}
 use lib.IntN.{ℤ, pos, negℤ, natAbs, _+ℤ_, _-ℤ_, _*ℤ_}
 use lib.Signed.{ltZ, _≤ℤ_, _<ℤ_}
-use Rattle.refusal.specs.Answer.{given, refused, check}
+use Rattle.refusal.specs.Answer.{Answer, given, refused, check}
 use Rattle.refusal.proofs.Answers.{given-inj, never}
 use Rattle.whole.proofs.Tests.{alike}
 use Rattle.whole.proofs.Laws.{ints, size-of, range-of, read-add, read-times}
@@ -16,12 +16,15 @@ use Rattle.iso_date.specs.Proposal.{epochDaysToISODate, isoDateToEpochDays, isV
 use Rattle.iso_date.specs.Paper.{balanced, balanceDate, dayToDate}
 use Rattle.iso_date.specs.declared.IsoDate.{IsoDate}
 use Rattle.iso_date.proofs.Answers.{limits-in}
+use Rattle.iso_date.proofs.Dates.{back-valid}
 use Rattle.iso_time.specs.Proposal.{isValidTime, balanceTime, nanoseconds}
 use Rattle.iso_time.specs.Paper.{allBounded, balanceTimeFields}
 use Rattle.iso_time.specs.declared.BalancedTime.{BalancedTime}
-use Rattle.iso_time.proofs.Times.{flat, below-day, balance-exact, balance-valid}
+use Rattle.iso_time.specs.Claims.{flat}
+use Rattle.iso_time.proofs.Times.{below-day, balance-exact, balance-valid}
 use Rattle.iso_time.proofs.Checks.{all-within}
-use Rattle.iso_date_time.specs.Proposal.{dateTime, isoDateTimeWithinLimits}
+use Rattle.iso_time.proofs.Theorems.{balance-is-valid}
+use Rattle.iso_date_time.specs.Proposal.{dateTime, isoDateTimeWithinLimits, balanceISODateTime}
 use Rattle.iso_date_time.specs.Paper.{dateTimeLimits, balanceDateTime}
 use Rattle.iso_date_time.specs.declared.IsoDateTime.{IsoDateTime}
 
@@ -84,19 +87,30 @@ limits-fine r e = go (isValidISODate (r .date)) refl (isValidTime (r .time)) ref
 
 -- ---- balancing
 
-module _ {A : Type 0} (t : Bool) (k n : ℕ) (x : A) where
-  -- a check has one number
-  one-number : refused n ≡ check t k (given x) → refused k ≡ check t k (given x)
-  one-number = go t
-    where
-      go : (t : Bool) → refused n ≡ check t k (given x) → refused k ≡ check t k (given x)
-      go true e = never x n e
-      go false e = refl
+module _ {A : Type 0} where
+  -- what a check refuses it did not pass, and what it gives stands behind it
+  pub check-refused : (t : Bool) (k n : ℕ) (x : A) → refused n ≡ check t k (given x) → t ≡ false
+  check-refused true k n x e = never x n e
+  check-refused false k n x e = refl
+
+  pub check-passed : (t : Bool) (k : ℕ) (rest : Answer A) (y : A) → check t k rest ≡ given y → (t ≡ true) × (rest ≡ given y)
+  check-passed true k rest y e = (refl, e)
+  check-passed false k rest y e = never y k e
+
+  pub check-given : (t : Bool) (k : ℕ) (x y : A) → given y ≡ check t k (given x) → (t ≡ true) × (y ≡ x)
+  check-given true k x y e = (refl, given-inj y x e)
+  check-given false k x y e = never y k (sym e)
 
 -- the carry of six fields within their bound is small
 pub carry-small : (h mi s ms us ns : ℤ) (b : BalancedTime) → given b ≡ balanceTimeFields h mi s ms us ns → natAbs (b .days) < 2 ^ 52
 unfolding balanceTimeFields
-carry-small h mi s ms us ns b e = go (allBounded h mi s ms us ns) refl e
+carry-small h mi s ms us ns b e =
+    let g = check-given (allBounded h mi s ms us ns) 7 (balanceTime h mi s ms us ns) b e in
+    let k = all-within h mi s ms us ns (g .0) in
+    let v = balance-valid h mi s ms us ns in
+    rw (g .1)
+    (few (balanceTime h mi s ms us ns .days) h mi s ms us ns (nanoseconds (balanceTime h mi s ms us ns .time)) (below-day (balanceTime h mi s ms us ns .time) v)
+    (balance-exact h mi s ms us ns) (k .0) (k .1 .0) (k .1 .1 .0) (k .1 .1 .1 .0) (k .1 .1 .1 .1 .0) (k .1 .1 .1 .1 .1))
   where
     few : (d h mi s ms us ns : ℤ) (n : ℕ) → n < nsPerDay → pos nsPerDay *ℤ d +ℤ pos n ≡ flat h mi s ms us ns →
         natAbs h ≤ 9007199254740991 → natAbs mi ≤ 9007199254740991 → natAbs s ≤ 9007199254740991 → natAbs ms ≤ 9007199254740991 →
@@ -132,34 +146,36 @@ carry-small h mi s ms us ns b e = go (allBounded h mi s ms us ns) refl e
           range-of d,
         )
 
-    go : (t : Bool) → allBounded h mi s ms us ns ≡ t → given b ≡ check (allBounded h mi s ms us ns) 7 (given (balanceTime h mi s ms us ns)) → natAbs (b .days) < 2 ^ 52
-    go true w f =
-        let is : b ≡ balanceTime h mi s ms us ns = given-inj b (balanceTime h mi s ms us ns) (rw w at f) in
-        let k = all-within h mi s ms us ns w in
-        let v = balance-valid h mi s ms us ns in
-        rw is
-        (few (balanceTime h mi s ms us ns .days) h mi s ms us ns (nanoseconds (balanceTime h mi s ms us ns .time)) (below-day (balanceTime h mi s ms us ns .time) v)
-        (balance-exact h mi s ms us ns) (k .0) (k .1 .0) (k .1 .1 .0) (k .1 .1 .1 .0) (k .1 .1 .1 .1 .0) (k .1 .1 .1 .1 .1))
-    go false w f = never b 7 (sym (rw w at f))
-
--- the date of a day count is refused by 4 alone
-pub four-alone : (n : ℕ) (k : ℤ) → refused n ≡ dayToDate k → refused 4 ≡ dayToDate k
-unfolding dayToDate
-four-alone n k e = one-number (balanced k) 4 n (epochDaysToISODate k) e
-
 module _ (y m d h mi s ms us ns : ℤ) where
+  abbrev dayOn : BalancedTime → ℤ
+  dayOn b = isoDateToEpochDays y (m -ℤ pos 1) (d +ℤ b .days)
+
   pub balance-bound : (n : ℕ) → refused n ≡ balanceTimeFields h mi s ms us ns → refused 7 ≡ balanceDateTime y m d h mi s ms us ns
   unfolding balanceDateTime balanceTimeFields
-  balance-bound n e =
-      let f = one-number (allBounded h mi s ms us ns) 7 n (balanceTime h mi s ms us ns) e in
-      rw (← f)
+  balance-bound n e = let f = check-refused (allBounded h mi s ms us ns) 7 n (balanceTime h mi s ms us ns) e in rw f
 
   pub balance-count : (b : BalancedTime) (n : ℕ) → given b ≡ balanceTimeFields h mi s ms us ns → refused n ≡ balanceDate y m (d +ℤ b .days) →
       refused 4 ≡ balanceDateTime y m d h mi s ms us ns
-  unfolding balanceDateTime balanceDate
-  balance-count b n e f = rw (← e, ← four-alone n (isoDateToEpochDays y (m -ℤ pos 1) (d +ℤ b .days)) f)
+  unfolding balanceDateTime balanceTimeFields balanceDate dayToDate
+  balance-count b n e f =
+      let g = check-given (allBounded h mi s ms us ns) 7 (balanceTime h mi s ms us ns) b e in
+      let k = check-refused (balanced (dayOn b)) 4 n (epochDaysToISODate (dayOn b)) f in
+      rw (g .0, rw (g .1) at k)
 
-  pub balance-is : (b : BalancedTime) (e : IsoDate) → given b ≡ balanceTimeFields h mi s ms us ns → given e ≡ balanceDate y m (d +ℤ b .days) →
-      given (dateTime e (b .time)) ≡ balanceDateTime y m d h mi s ms us ns
-  unfolding balanceDateTime
-  balance-is b e f g = rw (← f, ← g)
+  pub balance-is : (b : BalancedTime) (c : IsoDate) → given b ≡ balanceTimeFields h mi s ms us ns → given c ≡ balanceDate y m (d +ℤ b .days) →
+      given (dateTime c (b .time)) ≡ balanceDateTime y m d h mi s ms us ns
+  unfolding balanceDateTime balanceISODateTime balanceTimeFields balanceDate dayToDate
+  balance-is b c e f =
+      let g = check-given (allBounded h mi s ms us ns) 7 (balanceTime h mi s ms us ns) b e in
+      let k = check-given (balanced (dayOn b)) 4 (epochDaysToISODate (dayOn b)) c f in
+      rw (g .0, k .1, g .1, rw (g .1) at (k .0))
+
+  -- what balancing gives has valid fields, wherever it lies
+  pub balanced-is-valid : (r : IsoDateTime) → given r ≡ balanceDateTime y m d h mi s ms us ns →
+      (isValidISODate (r .date) ≡ true) × (isValidTime (r .time) ≡ true)
+  unfolding balanceDateTime balanceISODateTime
+  balanced-is-valid r e =
+      let b : BalancedTime = balanceTime h mi s ms us ns in
+      let f = check-passed (allBounded h mi s ms us ns) 7 _ r (sym e) in
+      let g = check-passed (balanced (dayOn b)) 4 _ r (f .1) in
+      rw (← given-inj _ r (g .1)) (back-valid (dayOn b), balance-is-valid h mi s ms us ns)

@@ -1,30 +1,30 @@
 -- How the answer of rounding a date and time comes out of its steps, one law for each way through the code. Assumes nothing.
 use Prim.Native.Nat.{ℕ, _^_, _<_}
 use native.Mathlib.Omega.{arith}
-use mathlib.Core.Path.{_≡_, refl, sym, ap}
+use mathlib.Core.Path.{_≡_, refl, sym, _∙_, ap}
 use mathlib.Core.Bool.{Bool, true, false}
-use borrow.Author.Tests.{ltb-true}
-use lib.Dec.{ltb}
-use lib.IntN.{ℤ, pos, natAbs, _+ℤ_, _*ℤ_, +ℤ-idr}
+use lib.IntN.{ℤ, pos, negℤ, natAbs, _+ℤ_, _*ℤ_, +ℤ-idr}
 use lib.Signed.{_≤ℤ_}
 use Rattle.refusal.specs.Answer.{Answer, given, refused, check, numberOf}
 use Rattle.refusal.proofs.Answers.{given-inj, never}
-use Rattle.whole.proofs.Laws.{ints, size-of, range-of}
+use Rattle.whole.proofs.Laws.{ints, size-of, range-of, read-add}
 use Rattle.iso_date.specs.Proposal.{epochDays, epochDaysToISODate, isValidISODate}
 use Rattle.iso_date.specs.Paper.{balanced, dayToDate}
 use Rattle.iso_date.specs.declared.IsoDate.{IsoDate}
 use Rattle.iso_date.proofs.Dates.{back-valid}
-use Rattle.iso_time.specs.Proposal.{isValidTime, unitLength, validIncrement, roundTime}
-use Rattle.iso_time.specs.Paper.{roundedTime}
+use Rattle.iso_date.proofs.Answers.{in-range}
+use Rattle.iso_time.specs.Proposal.{isValidTime, validIncrement, roundTime}
+use Rattle.iso_time.specs.Paper.{isRoundingUnit, roundedTime}
 use Rattle.iso_time.specs.declared.IsoTime.{IsoTime}
 use Rattle.iso_time.specs.declared.BalancedTime.{BalancedTime}
 use Rattle.iso_time.proofs.Theorems.{rounded-time-is-a-time}
 use Rattle.rounding.specs.declared.RoundingMode.{RoundingMode}
-use Rattle.options.specs.declared.Unit.{Unit as AnyUnit}
-use Rattle.iso_date_time.specs.Proposal.{dateTime, isoDateTimeWithinLimits}
+use Rattle.options.specs.declared.Unit.{Unit as TemporalUnit}
+use Rattle.iso_date_time.specs.Proposal.{dateTime, isoDateTimeWithinLimits, roundISODateTime}
 use Rattle.iso_date_time.specs.Paper.{dateTimeLimits, roundDateTime}
 use Rattle.iso_date_time.specs.declared.IsoDateTime.{IsoDateTime}
-use Rattle.iso_date_time.proofs.Moments.{four-alone}
+use Rattle.iso_date_time.proofs.Moments.{limits-fine, check-given, check-passed}
+use Rattle.iso_date_time.proofs.Differences.{fine-day}
 
 -- ---- what a rounded time is
 
@@ -33,29 +33,30 @@ pub record Rounded (b : BalancedTime) : Type 0 where
   pub days-low : pos 0 ≤ℤ b .days
   pub days-high : b .days ≤ℤ pos 1
 
-pub rounded : (t : IsoTime) (unit : AnyUnit) (inc : ℕ) (mode : RoundingMode) (b : BalancedTime) → given b ≡ roundedTime t unit inc mode → Rounded b
-unfolding roundedTime
-rounded t unit inc mode b e = go (isValidTime t) refl (ltb 0 (unitLength unit)) refl (validIncrement unit inc) refl e
-  where
-    go : (v : Bool) → isValidTime t ≡ v → (w : Bool) → ltb 0 (unitLength unit) ≡ w → (x : Bool) → validIncrement unit inc ≡ x →
-        given b ≡ check v 1 (check w 5 (check x 6 (given (roundTime t inc unit mode)))) → Rounded b
-    go true v true w true x f =
-        let r = rounded-time-is-a-time t unit inc mode v (ltb-true 0 (unitLength unit) w) x in
-        rw (given-inj b (roundTime t inc unit mode) f) (record { valid = r .0; days-low = r .1 .0; days-high = r .1 .1 })
-    go true v true w false x f = never b 6 (sym f)
-    go true v false w x _ f = never b 5 (sym f)
-    go false v w _ x _ f = never b 1 (sym f)
+module _ (t : IsoTime) (unit : TemporalUnit) (inc : ℕ) (mode : RoundingMode) (b : BalancedTime) where
+  -- what is given passed the checks and is RoundTime's
+  pub round-read : given b ≡ roundedTime t unit inc mode →
+      (isValidTime t ≡ true) × ((isRoundingUnit unit ≡ true) × ((validIncrement unit inc ≡ true) × (b ≡ roundTime t inc unit mode)))
+  unfolding roundedTime
+  round-read e =
+      let v = check-passed (isValidTime t) 1 _ b (sym e) in
+      let u = check-passed (isRoundingUnit unit) 5 _ b (v .1) in
+      let i = check-passed (validIncrement unit inc) 6 _ b (u .1) in
+      (v .0, (u .0, (i .0, sym (given-inj (roundTime t inc unit mode) b (i .1)))))
+
+  pub rounded : given b ≡ roundedTime t unit inc mode → Rounded b
+  rounded e =
+      let f = round-read e in
+      let r = rounded-time-is-a-time t unit inc mode (f .0) (f .1 .0) (f .1 .1 .0) in
+      rw (f .1 .1 .1) (record { valid = r .0; days-low = r .1 .0; days-high = r .1 .1 })
 
 pub few-days : (b : BalancedTime) → Rounded b → natAbs (b .days) < 2 ^ 38
 few-days b r = omega (arith, ints, r .days-low, r .days-high, size-of (b .days), range-of (b .days))
 
 pub day-valid : (d : IsoDate) (n : ℤ) → given d ≡ dayToDate n → isValidISODate d ≡ true
 unfolding dayToDate
-day-valid d n e = go (balanced n) e
-  where
-    go : (t : Bool) → given d ≡ check t 4 (given (epochDaysToISODate n)) → isValidISODate d ≡ true
-    go true f = rw (given-inj d (epochDaysToISODate n) f) (back-valid n)
-    go false f = never d 4 (sym f)
+day-valid d n e =
+    rw (check-given (balanced n) 4 (epochDaysToISODate n) d e .1) (back-valid n)
 
 -- no weeks
 pub days-alone : (a d : ℤ) → a +ℤ (d +ℤ pos 7 *ℤ pos 0) ≡ a +ℤ d
@@ -63,7 +64,7 @@ days-alone a d = ap (λ (z : ℤ). a +ℤ z) (+ℤ-idr d)
 
 -- ---- the ways
 
-module _ (r : IsoDateTime) (unit : AnyUnit) (inc : ℕ) (mode : RoundingMode) where
+module _ (r : IsoDateTime) (unit : TemporalUnit) (inc : ℕ) (mode : RoundingMode) where
   pub round-record : (checked : Answer (Unit {0})) (n k : ℕ) → checked ≡ refused n → k ≡ numberOf checked → checked ≡ dateTimeLimits r →
       refused k ≡ roundDateTime r unit inc mode
   unfolding roundDateTime
@@ -71,15 +72,40 @@ module _ (r : IsoDateTime) (unit : AnyUnit) (inc : ℕ) (mode : RoundingMode) wh
 
   pub round-time : (a : Answer BalancedTime) (n k : ℕ) → given tt ≡ dateTimeLimits r → a ≡ refused n → k ≡ numberOf a → a ≡ roundedTime (r .time) unit inc mode →
       refused k ≡ roundDateTime r unit inc mode
-  unfolding roundDateTime
-  round-time a n k h e f g = rw (f, ← h, ← g, e)
+  unfolding roundDateTime roundedTime
+  round-time a n k h e f g = go (isRoundingUnit unit) refl (validIncrement unit inc) refl
+    where
+      valid : isValidTime (r .time) ≡ true
+      valid = limits-fine r h .time-valid
+
+      same : refused k ≡ roundedTime (r .time) unit inc mode
+      same = ap refused (f ∙ ap numberOf e) ∙ sym e ∙ g
+
+      go : (u : Bool) → isRoundingUnit unit ≡ u → (i : Bool) → validIncrement unit inc ≡ i → refused k ≡ roundDateTime r unit inc mode
+      go true u true i = never (roundTime (r .time) inc unit mode) k (rw (valid, u, i) at same)
+      go true u false i = let x : k ≡ 6 = ap numberOf (rw (valid, u, i) at same) in rw (← h, u, i, x)
+      go false u _ i = let x : k ≡ 5 = ap numberOf (rw (valid, u) at same) in rw (← h, u, x)
 
   module _ (b : BalancedTime) (h : given tt ≡ dateTimeLimits r) (e : given b ≡ roundedTime (r .time) unit inc mode) where
-    pub round-count : (n : ℕ) → refused n ≡ dayToDate (epochDays (r .date) +ℤ b .days) → refused 4 ≡ roundDateTime r unit inc mode
-    unfolding roundDateTime
-    round-count n f = rw (← h, ← e, ← four-alone n (epochDays (r .date) +ℤ b .days) f)
+    -- the rounded time has no day or one, and the record's day is at most 100,000,000: the count is always that of a date
+    count-balanced : balanced (epochDays (r .date) +ℤ b .days) ≡ true
+    count-balanced =
+        let x = fine-day r (limits-fine r h) in
+        let d = rounded (r .time) unit inc mode b e in
+        go (epochDays (r .date)) (b .days) (x .0) (x .1) (d .days-low) (d .days-high)
+      where
+        go : (n d : ℤ) → negℤ (pos 100000001) ≤ℤ n → n ≤ℤ pos 100000000 → pos 0 ≤ℤ d → d ≤ℤ pos 1 → balanced (n +ℤ d) ≡ true
+        go n d h i j k = in-range (n +ℤ d) (omega (arith, ints, read-add n d)) (omega (arith, ints, read-add n d))
+
+    -- so the code's refusal by 4 is never reached
+    pub count-never-refused : (n : ℕ) → refused n ≡ dayToDate (epochDays (r .date) +ℤ b .days) → ⊥
+    unfolding dayToDate
+    count-never-refused n f = never (epochDaysToISODate (epochDays (r .date) +ℤ b .days)) n (rw count-balanced at f)
 
     pub round-limits : (d : IsoDate) → given d ≡ dayToDate (epochDays (r .date) +ℤ b .days) →
         check (isoDateTimeWithinLimits (dateTime d (b .time))) 3 (given (dateTime d (b .time))) ≡ roundDateTime r unit inc mode
-    unfolding roundDateTime
-    round-limits d f = rw (← h, ← e, ← f)
+    unfolding roundDateTime roundISODateTime dayToDate
+    round-limits d f =
+        let g = round-read (r .time) unit inc mode b e in
+        let k = check-given (balanced (epochDays (r .date) +ℤ b .days)) 4 (epochDaysToISODate (epochDays (r .date) +ℤ b .days)) d f in
+        rw (← h, g .1 .0, g .1 .1 .0, k .1, g .1 .1 .1)

@@ -1,63 +1,53 @@
 -- What holds of the calls on dates with a time beyond their definitions: the difference of two records within the limits is always
--- given, is exact in nanoseconds and never of two directions, and rounding does not meet the refusal of a day count. Assumes nothing.
+-- given, is exact in nanoseconds, has no part larger than the unit and never two directions; rounding does not meet the refusal of a
+-- day count, and what it gives may stand. Assumes nothing.
 use Prim.Native.Nat.{ℕ, _+_, _*_, _/_, _%_, _≤_, _<_}
 use native.Mathlib.Omega.{arith}
 use mathlib.Core.Path.{_≡_, refl, sym, _∙_, ap}
 use mathlib.Core.Logic.{⊎-elim}
 use mathlib.Core.Bool.{Bool, true, false}
-use lib.Dec.{ltb}
-use lib.IntN.{ℤ, pos, negℤ, _+ℤ_, _-ℤ_, _*ℤ_, +ℤ-idl, +ℤ-assoc, +ℤ-comm}
-use lib.Signed.{_≤ℤ_, quotZ, remZ}
-use Rattle.refusal.specs.Answer.{Answer, given, refused, check, andThen}
-use Rattle.refusal.proofs.Answers.{never}
+use borrow.Author.Tests.{le-leb}
+use lib.IntN.{ℤ, pos, negℤ, _+ℤ_, _-ℤ_, _*ℤ_, +ℤ-idl, +ℤ-comm}
+use Rattle.refusal.specs.Answer.{Answer, given, refused, check, andThen, numberOf}
+use Rattle.refusal.proofs.Answers.{given-inj, never}
 use Rattle.whole.specs.Whole.{_⊖_}
 use Rattle.whole.proofs.Laws.{whole, ints, parts, split, read-add, read-neg, read-diff}
 use Rattle.whole.proofs.Edges.{raised-is}
 use Rattle.iso_date.specs.Proposal.{epochDays, epochDaysToISODate, isValidISODate, nsPerDay}
-use Rattle.iso_date.specs.Paper.{balanced, dayToDate}
 use Rattle.iso_date.specs.Inner.{dayBias}
-use Rattle.iso_date.specs.declared.IsoDate.{IsoDate}
 use Rattle.iso_date.proofs.Dates.{back-valid, back-and-there}
-use Rattle.iso_date.proofs.Answers.{in-range}
-use Rattle.iso_time.specs.Proposal.{nanoseconds, isValidTime, unitLength, validIncrement, roundTime}
-use Rattle.iso_time.specs.Paper.{roundedTime}
-use Rattle.iso_time.specs.declared.BalancedTime.{BalancedTime}
-use Rattle.iso_time.proofs.Theorems.{cut-back}
+use Rattle.iso_time.specs.Proposal.{nanoseconds, inSeconds, isValidTime, validIncrement, roundTime}
+use Rattle.iso_time.specs.Paper.{isRoundingUnit}
+use Rattle.iso_time.specs.Claims.{nanosecondsOf, Along, Parts}
+use Rattle.iso_time.proofs.Theorems.{cut-back, parts-in-seconds, rounded-time-is-a-time}
 use Rattle.iso_time.proofs.Times.{read-valid, below-day}
 use Rattle.rounding.specs.declared.RoundingMode.{RoundingMode}
 use Rattle.date_duration.specs.Proposal.{duration}
-use Rattle.options.specs.declared.Unit.{Unit as AnyUnit}
+use Rattle.date_duration.specs.declared.DateDuration.{DateDuration}
+use Rattle.options.specs.declared.Unit.{Unit as TemporalUnit}
 use Rattle.options.specs.declared.Unit.the-variants as U
 use Rattle.options.specs.Units.{unitRank}
 use Rattle.date_math.specs.Proposal.{directed}
 use Rattle.date_math.specs.Claims.{Ahead}
 use Rattle.date_math.specs.Inner.{apart}
 use Rattle.date_math.proofs.Theorems.{parts-ahead}
-use Rattle.iso_date_time.specs.Proposal.{dateTime, epochNanoseconds, isoDateTimeWithinLimits, movedDays, atLeastDay, belowDay, joined, differenceISODateTime}
+use Rattle.iso_date_time.specs.Proposal.{epochNanoseconds, isoDateTimeWithinLimits, roundISODateTime, movedDays, timeLeft, atLeastDay, belowDay, joined, differenceISODateTime}
 use Rattle.iso_date_time.specs.Paper.{dateTimeLimits, roundDateTime, dateTimeDifference}
 use Rattle.iso_date_time.specs.Inner.{Turns}
+use Rattle.iso_date_time.specs.Claims.{exactly, OneWay}
 use Rattle.iso_date_time.specs.declared.IsoDateTime.{IsoDateTime}
-use Rattle.iso_date_time.specs.declared.InternalDurationRecord.{InternalDurationRecord}
-use Rattle.iso_date_time.proofs.Moments.{Fine, limits-fine}
+use Rattle.iso_date_time.proofs.Moments.{Fine, limits-fine, check-passed}
 use Rattle.iso_date_time.proofs.Turns.{in-seconds-is, turned-down, turned-ahead, turned-up, turned-behind, turned-here, day-difference}
 use Rattle.iso_date_time.proofs.Differences.{Placed, fine-day, placed, dates-and-time, time-alone}
-use Rattle.iso_date_time.proofs.Roundings.{rounded}
 
 -- ---- the exact nanoseconds of an answer's days and time
 
-abbrev pub exactly : InternalDurationRecord → ℤ
-exactly r = pos nsPerDay *ℤ r .date .days +ℤ pos 1000000000 *ℤ r .time .seconds +ℤ r .time .nanoseconds
-
-time-counts : (x z : ℤ) → x +ℤ pos 1000000000 *ℤ quotZ z (pos 1000000000) +ℤ remZ z (pos 1000000000) ≡ x +ℤ z
-time-counts x z =
-    +ℤ-assoc x (pos 1000000000 *ℤ quotZ z (pos 1000000000)) (remZ z (pos 1000000000)) ∙ ap (λ (y : ℤ). x +ℤ y) (cut-back z)
-
 -- wherever the days stand, they count
 joined-counts : (below : Bool) (y m w d ns : ℤ) → exactly (joined below (duration y m w d) ns) ≡ ns +ℤ pos nsPerDay *ℤ d
-joined-counts true y m w d ns = time-counts (pos nsPerDay *ℤ pos 0) (ns +ℤ pos nsPerDay *ℤ d) ∙ +ℤ-idl (ns +ℤ pos nsPerDay *ℤ d)
-joined-counts false y m w d ns = time-counts (pos nsPerDay *ℤ d) ns ∙ +ℤ-comm (pos nsPerDay *ℤ d) ns
+joined-counts true y m w d ns = +ℤ-idl (nanosecondsOf (inSeconds (ns +ℤ pos nsPerDay *ℤ d))) ∙ cut-back (ns +ℤ pos nsPerDay *ℤ d)
+joined-counts false y m w d ns = ap (λ (z : ℤ). pos nsPerDay *ℤ d +ℤ z) (cut-back ns) ∙ +ℤ-comm (pos nsPerDay *ℤ d) ns
 
-under-day : (unit : AnyUnit) → 3 ≤ unitRank unit → atLeastDay unit ≡ U.Day
+under-day : (unit : TemporalUnit) → 3 ≤ unitRank unit → atLeastDay unit ≡ U.Day
 under-day U.Year h = let f : ⊥ = omega arith in absurd f
 under-day U.Month h = let f : ⊥ = omega arith in absurd f
 under-day U.Week h = let f : ⊥ = omega arith in absurd f
@@ -69,6 +59,16 @@ under-day U.Millisecond h = refl
 under-day U.Microsecond h = refl
 under-day U.Nanosecond h = refl
 
+joined-larger : (below : Bool) (d ns : ℤ) →
+    (joined below (duration (pos 0) (pos 0) (pos 0) d) ns .date .years ≡ pos 0) ×
+    ((joined below (duration (pos 0) (pos 0) (pos 0) d) ns .date .months ≡ pos 0) × (joined below (duration (pos 0) (pos 0) (pos 0) d) ns .date .weeks ≡ pos 0))
+joined-larger true d ns = (refl, (refl, refl))
+joined-larger false d ns = (refl, (refl, refl))
+
+joined-parts : (below : Bool) (d : DateDuration) (ns : ℤ) → Parts (joined below d ns .time)
+joined-parts true d ns = parts-in-seconds (ns +ℤ pos nsPerDay *ℤ d .days)
+joined-parts false d ns = parts-in-seconds ns
+
 -- days e and f with nanoseconds a and b: what moves, m, joins the days and leaves the time
 between-moments : (e f m : ℤ) (a b : ℕ) →
     pos nsPerDay *ℤ f +ℤ pos b -ℤ (pos nsPerDay *ℤ e +ℤ pos a) ≡ (pos b -ℤ pos a -ℤ pos nsPerDay *ℤ m) +ℤ pos nsPerDay *ℤ (f +ℤ m -ℤ e)
@@ -76,20 +76,11 @@ between-moments e f m a b = rw (parts e, parts f, parts m) (simp whole (omega ar
 
 -- ---- the parts of an answer have one direction
 
-pub record OneWay (r : InternalDurationRecord) : Type 0 where
-  pub forward : Bool
-  pub years-ahead : Ahead forward (pos 0) (r .date .years)
-  pub months-ahead : Ahead forward (pos 0) (r .date .months)
-  pub weeks-ahead : Ahead forward (pos 0) (r .date .weeks)
-  pub days-ahead : Ahead forward (pos 0) (r .date .days)
-  pub seconds-ahead : Ahead forward (pos 0) (r .time .seconds)
-  pub nanoseconds-ahead : Ahead forward (pos 0) (r .time .nanoseconds)
-
-counted : (forward : Bool) (n : ℕ) → Ahead forward (pos 0) (directed forward n)
+counted : (forward : Bool) (n : ℕ) → Along forward (directed forward n)
 counted true n = omega (arith, ints)
 counted false n = omega (arith, ints, read-neg (pos n))
 
-nothing : (forward : Bool) → Ahead forward (pos 0) (pos 0)
+nothing : (forward : Bool) → Along forward (pos 0)
 nothing true = omega (arith, ints)
 nothing false = omega (arith, ints)
 
@@ -111,6 +102,12 @@ module _ {A : Type 0} (p a q b : ℕ) (k : a < nsPerDay) (l : b < nsPerDay)
       (split q p))
       (split p q)
 
+-- ---- the time of a difference: its nanoseconds are below a second in size
+
+pub time-parts : (one two : IsoDateTime) (unit : TemporalUnit) → Parts (differenceISODateTime one two unit .time)
+unfolding differenceISODateTime
+time-parts one two unit = joined-parts (belowDay unit) _ (timeLeft one two)
+
 -- ---- the difference of two records within the limits
 
 module _ (one two : IsoDateTime) (one-stands : dateTimeLimits one ≡ given tt) (two-stands : dateTimeLimits two ≡ given tt) where
@@ -120,22 +117,39 @@ module _ (one two : IsoDateTime) (one-stands : dateTimeLimits one ≡ given tt) 
   two-fine : Fine two
   two-fine = limits-fine two (sym two-stands)
 
-  pub difference-always-given : (unit : AnyUnit) → dateTimeDifference one two unit ≡ given (differenceISODateTime one two unit)
+  pub difference-always-given : (unit : TemporalUnit) → dateTimeDifference one two unit ≡ given (differenceISODateTime one two unit)
   unfolding dateTimeDifference
   difference-always-given unit = rw (one-stands, two-stands)
 
-  -- where the unit is day or below, days and time are the exact nanoseconds between the records
-  pub nanoseconds-exact : (unit : AnyUnit) → 3 ≤ unitRank unit →
-      epochNanoseconds two -ℤ epochNanoseconds one ≡ exactly (differenceISODateTime one two unit)
-  unfolding epochNanoseconds differenceISODateTime
-  nanoseconds-exact unit h =
-      let m : ℤ = movedDays one two in
-      let k : ℤ = epochDays (two .date) +ℤ m in
+  day-parts : (unit : TemporalUnit) → 3 ≤ unitRank unit →
+      differenceISODateTime one two unit ≡
+      joined (belowDay unit) (duration (pos 0) (pos 0) (pos 0) (epochDays (two .date) +ℤ movedDays one two -ℤ epochDays (one .date))) (timeLeft one two)
+  unfolding differenceISODateTime
+  day-parts unit h =
+      let k : ℤ = epochDays (two .date) +ℤ movedDays one two in
       rw (under-day unit h, day-difference (one .date) (epochDaysToISODate k) (one-fine .date-valid) (back-valid k), back-and-there k)
-      (between-moments (epochDays (one .date)) (epochDays (two .date)) m (nanoseconds (one .time)) (nanoseconds (two .time)) ∙
-      sym (joined-counts (belowDay unit) (pos 0) (pos 0) (pos 0) (k -ℤ epochDays (one .date)) _))
 
-  one-way : (unit : AnyUnit) (p day : ℕ) (forward : Bool) (ns : ℕ) → Placed one two p day forward ns → OneWay (differenceISODateTime one two unit)
+  -- where the unit is day or below, days and time are the exact nanoseconds between the records
+  pub nanoseconds-exact : (unit : TemporalUnit) → 3 ≤ unitRank unit →
+      epochNanoseconds two -ℤ epochNanoseconds one ≡ exactly (differenceISODateTime one two unit)
+  unfolding epochNanoseconds
+  nanoseconds-exact unit h =
+      rw (day-parts unit h)
+      (between-moments (epochDays (one .date)) (epochDays (two .date)) (movedDays one two) (nanoseconds (one .time)) (nanoseconds (two .time)) ∙
+      sym (joined-counts (belowDay unit) (pos 0) (pos 0) (pos 0) _ _))
+
+  -- and the larger parts are 0
+  pub larger-parts-zero : (unit : TemporalUnit) → 3 ≤ unitRank unit →
+      (differenceISODateTime one two unit .date .years ≡ pos 0) ×
+      ((differenceISODateTime one two unit .date .months ≡ pos 0) × (differenceISODateTime one two unit .date .weeks ≡ pos 0))
+  larger-parts-zero unit h = rw (day-parts unit h) (joined-larger (belowDay unit) _ (timeLeft one two))
+
+  -- below day the days are 0 too
+  pub days-joined : (unit : TemporalUnit) → 4 ≤ unitRank unit → differenceISODateTime one two unit .date .days ≡ pos 0
+  unfolding differenceISODateTime
+  days-joined unit h = rw (le-leb 4 (unitRank unit) h)
+
+  one-way : (unit : TemporalUnit) (p day : ℕ) (forward : Bool) (ns : ℕ) → Placed one two p day forward ns → OneWay (differenceISODateTime one two unit)
   one-way unit p day forward ns t =
       ⊎-elim
       (λ h.
@@ -143,12 +157,12 @@ module _ (one two : IsoDateTime) (one-stands : dateTimeLimits one ≡ given tt) 
       rw (← time-alone one two unit p day forward ns (unitRank unit) t refl (one-fine .date-valid) n _ h refl (in-seconds-is forward n ns _ _ refl refl))
       (record {
         forward = forward;
-        years-ahead = nothing forward;
-        months-ahead = nothing forward;
-        weeks-ahead = nothing forward;
-        days-ahead = nothing forward;
-        seconds-ahead = counted forward (86400 * n + ns / 1000000000);
-        nanoseconds-ahead = counted forward (ns % 1000000000);
+        years-along = nothing forward;
+        months-along = nothing forward;
+        weeks-along = nothing forward;
+        days-along = nothing forward;
+        seconds-along = counted forward (86400 * n + ns / 1000000000);
+        nanoseconds-along = counted forward (ns % 1000000000);
       }))
       (λ h.
       let to : ℤ = day ⊖ (dayBias + 1) in
@@ -157,17 +171,17 @@ module _ (one two : IsoDateTime) (one-stands : dateTimeLimits one ≡ given tt) 
       rw (← dates-and-time one two unit p day forward ns (unitRank unit) t refl _ _ h (sym (d .are)) (in-seconds-is forward 0 ns _ _ refl refl))
       (record {
         forward = forward;
-        years-ahead = counted forward (d .years);
-        months-ahead = counted forward (d .months);
-        weeks-ahead = counted forward (d .weeks);
-        days-ahead = counted forward (d .days);
-        seconds-ahead = counted forward (86400 * 0 + ns / 1000000000);
-        nanoseconds-ahead = counted forward (ns % 1000000000);
+        years-along = counted forward (d .years);
+        months-along = counted forward (d .months);
+        weeks-along = counted forward (d .weeks);
+        days-along = counted forward (d .days);
+        seconds-along = counted forward (86400 * 0 + ns / 1000000000);
+        nanoseconds-along = counted forward (ns % 1000000000);
       }))
       (split 3 (unitRank unit))
 
   -- no two parts have opposed signs
-  pub no-part-opposed : (unit : AnyUnit) → OneWay (differenceISODateTime one two unit)
+  pub no-part-opposed : (unit : TemporalUnit) → OneWay (differenceISODateTime one two unit)
   no-part-opposed unit =
       let a : ℕ = nanoseconds (one .time) in
       let b : ℕ = nanoseconds (two .time) in
@@ -176,19 +190,16 @@ module _ (one two : IsoDateTime) (one-stands : dateTimeLimits one ≡ given tt) 
       some-turn _ a _ b (below-day (one .time) (read-valid (one .time) (one-fine .time-valid))) (below-day (two .time) (read-valid (two .time) (two-fine .time-valid)))
       (λ day forward ns t. one-way unit _ day forward ns (placed one two one-fine two-fine _ a _ b day forward ns from to refl refl t))
 
--- ---- rounding never refuses with 4
-
-number-is : {A : Type 0} (n k : ℕ) → _≡_ {A = Answer A} (refused n) (refused k) → n ≡ k
-number-is n k e = cc
+-- ---- rounding never refuses with 4, and what it gives may stand
 
 check-not : {A : Type 0} (t : Bool) (k : ℕ) (rest : Answer A) → (k ≡ 4 → ⊥) → (rest ≡ refused 4 → ⊥) → check t k rest ≡ refused 4 → ⊥
 check-not true k rest g h e = h e
-check-not false k rest g h e = g (number-is k 4 e)
+check-not false k rest g h e = g (ap numberOf e)
 
-then-not : {A B : Type 0} (first : Answer A) (step : A → Answer B) → (first ≡ refused 4 → ⊥) → ((a : A) → first ≡ given a → step a ≡ refused 4 → ⊥) →
+then-not : {A B : Type 0} (first : Answer A) (step : A → Answer B) → (first ≡ refused 4 → ⊥) → ((a : A) → step a ≡ refused 4 → ⊥) →
     andThen first step ≡ refused 4 → ⊥
-then-not (given a) step g h e = h a refl e
-then-not (refused n) step g h e = g (ap refused (number-is n 4 e))
+then-not (given a) step g h e = h a e
+then-not (refused n) step g h e = g (ap refused (ap numberOf e))
 
 limits-not : (r : IsoDateTime) → dateTimeLimits r ≡ refused 4 → ⊥
 unfolding dateTimeLimits
@@ -197,41 +208,41 @@ limits-not r =
     (check-not (isValidTime (r .time)) 1 _ (λ e. omega arith)
     (check-not (isoDateTimeWithinLimits r) 3 _ (λ e. omega arith) (λ e. never {A = Unit {0}} tt 4 (sym e))))
 
-module _ (r : IsoDateTime) (unit : AnyUnit) (inc : ℕ) (mode : RoundingMode) where
-  rounded-not : roundedTime (r .time) unit inc mode ≡ refused 4 → ⊥
-  unfolding roundedTime
-  rounded-not =
-      check-not (isValidTime (r .time)) 1 _ (λ e. omega arith)
-      (check-not (ltb 0 (unitLength unit)) 5 _ (λ e. omega arith)
-      (check-not (validIncrement unit inc) 6 _ (λ e. omega arith) (λ e. never (roundTime (r .time) inc unit mode) 4 (sym e))))
+module _ (r : IsoDateTime) (unit : TemporalUnit) (inc : ℕ) (mode : RoundingMode) where
+  abbrev result : IsoDateTime
+  result = roundISODateTime r inc unit mode
 
-  abbrev limited : BalancedTime → IsoDate → Answer IsoDateTime
-  limited b d = check (isoDateTimeWithinLimits (dateTime d (b .time))) 3 (given (dateTime d (b .time)))
+  abbrev limited : Answer IsoDateTime
+  limited = check (isoDateTimeWithinLimits result) 3 (given result)
 
-  abbrev on-the-day : BalancedTime → Answer IsoDateTime
-  on-the-day b = andThen (dayToDate (epochDays (r .date) +ℤ b .days)) (limited b)
-
-  -- the rounded time has no day or one, and the record's day is at most 100,000,000
-  count-balanced : (b : BalancedTime) → given tt ≡ dateTimeLimits r → given b ≡ roundedTime (r .time) unit inc mode →
-      balanced (epochDays (r .date) +ℤ b .days) ≡ true
-  count-balanced b e f =
-      let x = fine-day r (limits-fine r e) in
-      let d = rounded (r .time) unit inc mode b f in
-      go (epochDays (r .date)) (b .days) (x .0) (x .1) (d .days-low) (d .days-high)
-    where
-      go : (n d : ℤ) → negℤ (pos 100000001) ≤ℤ n → n ≤ℤ pos 100000000 → pos 0 ≤ℤ d → d ≤ℤ pos 1 → balanced (n +ℤ d) ≡ true
-      go n d h i j k = in-range (n +ℤ d) (omega (arith, ints, read-add n d)) (omega (arith, ints, read-add n d))
-
-  count-not : (k : ℤ) → balanced k ≡ true → dayToDate k ≡ refused 4 → ⊥
-  unfolding dayToDate
-  count-not k b e = never (epochDaysToISODate k) 4 (sym (rw b at e))
+  abbrev rounding : Answer IsoDateTime
+  rounding = check (isRoundingUnit unit) 5 (check (validIncrement unit inc) 6 limited)
 
   pub rounding-never-4 : roundDateTime r unit inc mode ≡ refused 4 → ⊥
   unfolding roundDateTime
   rounding-never-4 =
-      then-not (dateTimeLimits r) (λ _. andThen (roundedTime (r .time) unit inc mode) on-the-day) (limits-not r)
-      (λ _ e.
-      then-not (roundedTime (r .time) unit inc mode) on-the-day rounded-not
-      (λ b f.
-      then-not (dayToDate (epochDays (r .date) +ℤ b .days)) (limited b) (count-not _ (count-balanced b (sym e) (sym f)))
-      (λ d _. check-not (isoDateTimeWithinLimits (dateTime d (b .time))) 3 _ (λ z. omega arith) (λ z. never (dateTime d (b .time)) 4 (sym z)))))
+      then-not (dateTimeLimits r) (λ _. rounding) (limits-not r)
+      (λ _.
+      check-not (isRoundingUnit unit) 5 _ (λ e. omega arith)
+      (check-not (validIncrement unit inc) 6 _ (λ e. omega arith)
+      (check-not (isoDateTimeWithinLimits result) 3 _ (λ e. omega arith) (λ e. never result 4 (sym e)))))
+
+  result-stands : isValidTime (r .time) ≡ true → isRoundingUnit unit ≡ true → validIncrement unit inc ≡ true → isoDateTimeWithinLimits result ≡ true →
+      dateTimeLimits result ≡ given tt
+  unfolding dateTimeLimits roundISODateTime
+  result-stands v u i w =
+      rw (back-valid (epochDays (r .date) +ℤ roundTime (r .time) inc unit mode .days), rounded-time-is-a-time (r .time) unit inc mode v u i .0, w)
+
+  -- whatever rounding gives is valid and within the limits
+  pub rounded-stands : (s : IsoDateTime) → roundDateTime r unit inc mode ≡ given s → dateTimeLimits s ≡ given tt
+  unfolding roundDateTime
+  rounded-stands s e =
+      go (dateTimeLimits r) refl e
+    where
+      go : (a : Answer (Unit {0})) → dateTimeLimits r ≡ a → andThen a (λ _. rounding) ≡ given s → dateTimeLimits s ≡ given tt
+      go (given tt) h f =
+          let u = check-passed (isRoundingUnit unit) 5 _ s f in
+          let i = check-passed (validIncrement unit inc) 6 _ s (u .1) in
+          let w = check-passed (isoDateTimeWithinLimits result) 3 _ s (i .1) in
+          rw (← given-inj result s (w .1)) (result-stands (limits-fine r (sym h) .time-valid) (u .0) (i .0) (w .0))
+      go (refused n) h f = never s n f

@@ -19,7 +19,7 @@ use Rattle.iso_time.specs.Proposal.{nanoseconds, inSeconds}
 use Rattle.iso_time.specs.Inner.{nsPerDay}
 use Rattle.iso_time.proofs.Checks.{duration as span, cut-below}
 use Rattle.date_duration.specs.Proposal.{duration}
-use Rattle.options.specs.declared.Unit.{Unit as AnyUnit}
+use Rattle.options.specs.declared.Unit.{Unit as TemporalUnit}
 use Rattle.options.specs.declared.Unit.the-variants as U
 use Rattle.date_math.specs.Proposal.{directed, isLater, movedBy, restStart, calendarDateUntil}
 use Rattle.date_math.specs.Inner.{placeOf, yearsIn, monthsIn, weeksIn, apart}
@@ -224,7 +224,7 @@ module _ (day : ℕ) (d : IsoDate) (is : d ≡ epochDaysToISODate ((day - 1) ⊖
   pub day-valid : isValidISODate d ≡ true
   day-valid = rw is (back-valid ((day - 1) ⊖ dayBias))
 
-  pub until-day : (one : IsoDate) (unit : AnyUnit) → 1 ≤ day →
+  pub until-day : (one : IsoDate) (unit : TemporalUnit) → 1 ≤ day →
       calendarDateUntil one d unit ≡ calendarDateUntil one (epochDaysToISODate (day ⊖ (dayBias + 1))) unit
   until-day one unit h =
       let e : (day - 1) ⊖ dayBias ≡ day ⊖ (dayBias + 1) = omega (arith, ints, read-diff (day - 1) dayBias, read-diff day (dayBias + 1)) in

@@ -3,16 +3,16 @@
 use Prim.Native.Nat.{ℕ}
 use mathlib.Core.Bool.{Bool, _&&_}
 use lib.Dec.{ltb}
-use lib.IntN.{ℤ, pos, negℤ, natAbs, _+ℤ_, _*ℤ_}
+use lib.IntN.{ℤ, pos, negℤ, natAbs, _+ℤ_, _-ℤ_, _*ℤ_}
 use lib.Signed.{leZ, ltZ}
 use Rattle.refusal.specs.Answer.{Answer, given, refused, check, andThen}
-use Rattle.iso_date.specs.Proposal.{epochDays, isValidISODate, nsPerDay}
-use Rattle.iso_date.specs.Paper.{balanceDate, dayToDate}
-use Rattle.iso_time.specs.Proposal.{isValidTime}
-use Rattle.iso_time.specs.Paper.{balanceTimeFields, roundedTime}
+use Rattle.iso_date.specs.Proposal.{isoDateToEpochDays, isValidISODate, nsPerDay}
+use Rattle.iso_date.specs.Paper.{balanced}
+use Rattle.iso_time.specs.Proposal.{isValidTime, balanceTime, validIncrement}
+use Rattle.iso_time.specs.Paper.{allBounded, isRoundingUnit}
 use Rattle.rounding.specs.declared.RoundingMode.{RoundingMode}
-use Rattle.options.specs.declared.Unit.{Unit as AnyUnit}
-use Rattle.iso_date_time.specs.Proposal.{dateTime, isoDateTimeWithinLimits, differenceISODateTime, getISOPartsFromEpoch, withOffset}
+use Rattle.options.specs.declared.Unit.{Unit as TemporalUnit}
+use Rattle.iso_date_time.specs.Proposal.{isoDateTimeWithinLimits, balanceISODateTime, roundISODateTime, differenceISODateTime, getISOPartsFromEpoch, withOffset}
 use Rattle.iso_date_time.specs.declared.IsoDateTime.{IsoDateTime}
 use Rattle.iso_date_time.specs.declared.InternalDurationRecord.{InternalDurationRecord}
 use Rattle.iso_date_time.specs.declared.DateTimeResult.{DateTimeResult}
@@ -37,23 +37,24 @@ unfoldable pub dateTimeLimits : IsoDateTime → Answer (Unit {0})
 dateTimeLimits r =
     check (isValidISODate (r .date)) 1 (check (isValidTime (r .time)) 1 (check (isoDateTimeWithinLimits r) 3 (given tt)))
 
--- the bound of the fields (7), then the exact sum of day, count and carry (4); the limits are not tested
+-- the bound of the fields (7), then the exact sum of count, day and carry (4); the limits are not tested
 unfoldable pub balanceDateTime : ℤ → ℤ → ℤ → ℤ → ℤ → ℤ → ℤ → ℤ → ℤ → Answer IsoDateTime
 balanceDateTime year month day hour minute second millisecond microsecond nanosecond =
-    andThen (balanceTimeFields hour minute second millisecond microsecond nanosecond) (λ b.
-    andThen (balanceDate year month (day +ℤ b .days)) (λ d.
-    given (dateTime d (b .time))))
+    let carry : ℤ = balanceTime hour minute second millisecond microsecond nanosecond .days in
+    check (allBounded hour minute second millisecond microsecond nanosecond) 7
+    (check (balanced (isoDateToEpochDays year (month -ℤ pos 1) (day +ℤ carry))) 4
+    (given (balanceISODateTime year month day hour minute second millisecond microsecond nanosecond)))
 
--- the record, the unit (5), the increment (6); then the days of the rounded time join the date, and the limits (3) end it
-unfoldable pub roundDateTime : IsoDateTime → AnyUnit → ℕ → RoundingMode → Answer IsoDateTime
+-- the record, the unit (5), the increment (6); then the limits of what comes out (3)
+unfoldable pub roundDateTime : IsoDateTime → TemporalUnit → ℕ → RoundingMode → Answer IsoDateTime
 roundDateTime r unit inc mode =
     andThen (dateTimeLimits r) (λ _.
-    andThen (roundedTime (r .time) unit inc mode) (λ b.
-    andThen (dayToDate (epochDays (r .date) +ℤ b .days)) (λ d.
-    check (isoDateTimeWithinLimits (dateTime d (b .time))) 3 (given (dateTime d (b .time))))))
+    check (isRoundingUnit unit) 5 (check (validIncrement unit inc) 6
+    (check (isoDateTimeWithinLimits (roundISODateTime r inc unit mode)) 3
+    (given (roundISODateTime r inc unit mode)))))
 
 -- every unit is usable
-unfoldable pub dateTimeDifference : IsoDateTime → IsoDateTime → AnyUnit → Answer InternalDurationRecord
+unfoldable pub dateTimeDifference : IsoDateTime → IsoDateTime → TemporalUnit → Answer InternalDurationRecord
 dateTimeDifference one two unit =
     andThen (dateTimeLimits one) (λ _. andThen (dateTimeLimits two) (λ _. given (differenceISODateTime one two unit)))
 

@@ -7,13 +7,14 @@ use lib.IntN.{ℤ, pos, negℤ, _+ℤ_, _-ℤ_, _*ℤ_}
 use lib.Signed.{ltZ}
 use Rattle.iso_date.specs.Proposal.{epochDays, epochDaysToISODate, isoDateToEpochDays, momentWithinLimits, nsPerDay}
 use Rattle.iso_date.specs.declared.IsoDate.{IsoDate}
-use Rattle.iso_time.specs.Proposal.{balanceTime, nanoseconds, inSeconds}
+use Rattle.iso_time.specs.Proposal.{balanceTime, nanoseconds, nanosecondsUntil, inSeconds, roundTime}
 use Rattle.iso_time.specs.declared.IsoTime.{IsoTime}
 use Rattle.iso_time.specs.declared.BalancedTime.{BalancedTime}
+use Rattle.rounding.specs.declared.RoundingMode.{RoundingMode}
 use Rattle.date_duration.specs.Proposal.{duration}
 use Rattle.date_duration.specs.declared.DateDuration.{DateDuration}
 use Rattle.date_math.specs.Proposal.{addDaysToISODate, isLater, calendarDateUntil}
-use Rattle.options.specs.declared.Unit.{Unit as AnyUnit}
+use Rattle.options.specs.declared.Unit.{Unit as TemporalUnit}
 use Rattle.options.specs.declared.Unit.the-variants as U
 use Rattle.options.specs.Units.{unitRank}
 use Rattle.iso_date_time.specs.declared.IsoDateTime.{IsoDateTime}
@@ -30,34 +31,45 @@ epochNanoseconds r = pos nsPerDay *ℤ epochDays (r .date) +ℤ pos (nanoseconds
 abbrev pub isoDateTimeWithinLimits : IsoDateTime → Bool
 isoDateTimeWithinLimits r = momentWithinLimits (epochDays (r .date)) (nanoseconds (r .time))
 
--- ---- DifferenceISODateTime
+-- BalanceISODateTime: the time's carry joins the day, and the date is that of the exact count
+unfoldable pub balanceISODateTime : ℤ → ℤ → ℤ → ℤ → ℤ → ℤ → ℤ → ℤ → ℤ → IsoDateTime
+balanceISODateTime year month day hour minute second millisecond microsecond nanosecond =
+    let b : BalancedTime = balanceTime hour minute second millisecond microsecond nanosecond in
+    dateTime (epochDaysToISODate (isoDateToEpochDays year (month -ℤ pos 1) (day +ℤ b .days))) (b .time)
 
--- the sign of a number, and of one date against another
+-- RoundISODateTime: RoundTime of the time, and its days added to the date
+unfoldable pub roundISODateTime : IsoDateTime → ℕ → TemporalUnit → RoundingMode → IsoDateTime
+roundISODateTime r inc unit mode =
+    let b : BalancedTime = roundTime (r .time) inc unit mode in
+    dateTime (addDaysToISODate (r .date) (b .days)) (b .time)
+
+-- the sign of a number
 abbrev pub signOf : ℤ → ℤ
 signOf z = cond (ltZ z (pos 0)) (negℤ (pos 1)) (cond (ltZ (pos 0) z) (pos 1) (pos 0))
 
+-- CompareISODate: the sign of one date against another
 abbrev pub compareISODate : IsoDate → IsoDate → ℤ
 compareISODate a b = cond (isLater a b) (pos 1) (cond (isLater b a) (negℤ (pos 1)) (pos 0))
 
--- whether two signs are opposed
+-- whether two numbers have opposed signs
 abbrev pub opposed : ℤ → ℤ → Bool
 opposed s t = (ltZ s (pos 0) && ltZ (pos 0) t) || (ltZ (pos 0) s && ltZ t (pos 0))
 
--- the days that move from the date to the time: the sign of the time difference where it is opposed to that of the dates
+-- the days added to two's date: one, in the direction of the time difference, where that is opposed to the sign of the dates
 unfoldable pub movedDays : IsoDateTime → IsoDateTime → ℤ
 movedDays one two =
-    let span : ℤ = pos (nanoseconds (two .time)) -ℤ pos (nanoseconds (one .time)) in
+    let span : ℤ = nanosecondsUntil (one .time) (two .time) in
     cond (opposed span (compareISODate (two .date) (one .date))) (signOf span) (pos 0)
 
+-- the time difference, with those days moved the other way
 abbrev pub timeLeft : IsoDateTime → IsoDateTime → ℤ
-timeLeft one two =
-    pos (nanoseconds (two .time)) -ℤ pos (nanoseconds (one .time)) -ℤ pos nsPerDay *ℤ movedDays one two
+timeLeft one two = nanosecondsUntil (one .time) (two .time) -ℤ pos nsPerDay *ℤ movedDays one two
 
 -- the larger of day and a unit
-abbrev pub atLeastDay : AnyUnit → AnyUnit
+abbrev pub atLeastDay : TemporalUnit → TemporalUnit
 atLeastDay unit = cond (leb (unitRank unit) 3) unit U.Day
 
-abbrev pub belowDay : AnyUnit → Bool
+abbrev pub belowDay : TemporalUnit → Bool
 belowDay unit = leb 4 (unitRank unit)
 
 -- below day the days of the dates' difference join the time; the time is given as whole seconds and nanoseconds, cut towards zero
@@ -66,20 +78,14 @@ joined true d ns =
     record { date = duration (d .years) (d .months) (d .weeks) (pos 0); time = inSeconds (ns +ℤ pos nsPerDay *ℤ d .days) }
 joined false d ns = record { date = d; time = inSeconds ns }
 
-unfoldable pub differenceISODateTime : IsoDateTime → IsoDateTime → AnyUnit → InternalDurationRecord
+-- DifferenceISODateTime(one, two, largest unit): the difference of the dates under the larger of day and the unit, two's date moved,
+-- and the time that is left
+unfoldable pub differenceISODateTime : IsoDateTime → IsoDateTime → TemporalUnit → InternalDurationRecord
 differenceISODateTime one two unit =
     joined (belowDay unit)
     (calendarDateUntil (one .date) (addDaysToISODate (two .date) (movedDays one two)) (atLeastDay unit)) (timeLeft one two)
 
--- ---- BalanceISODateTime, GetISOPartsFromEpoch
-
--- the time's carry joins the day; the date is that of the exact count
-unfoldable pub balanceISODateTime : ℤ → ℤ → ℤ → ℤ → ℤ → ℤ → ℤ → ℤ → ℤ → IsoDateTime
-balanceISODateTime year month day hour minute second millisecond microsecond nanosecond =
-    let b : BalancedTime = balanceTime hour minute second millisecond microsecond nanosecond in
-    dateTime (epochDaysToISODate (isoDateToEpochDays year (month -ℤ pos 1) (day +ℤ b .days))) (b .time)
-
--- the date of a day number and the time that lies so many nanoseconds after its midnight
+-- GetISOPartsFromEpoch: the date of a day number and the time that lies so many nanoseconds after its midnight
 unfoldable pub getISOPartsFromEpoch : ℤ → ℕ → IsoDateTime
 getISOPartsFromEpoch day ns =
     dateTime (epochDaysToISODate day) (balanceTime (pos 0) (pos 0) (pos 0) (pos 0) (pos 0) (pos ns) .time)

@@ -1,17 +1,20 @@
 -- Checks one after another, and spans in seconds. Assumes nothing.
-use Rattle.options.specs.declared.Unit.{Unit as TimeUnit}
 use Prim.Native.Nat.{ℕ, zero, suc, _-_, _/_, _%_, _≤_, _<_}
 use native.Mathlib.Omega.{arith}
-use mathlib.Core.Path.{_≡_, refl, sym}
-use mathlib.Core.Bool.{true, false}
-use borrow.Author.Tests.{leb-true, ne-eqb, lt-ltb, le-ltb}
-use lib.Dec.{eqb}
+use mathlib.Core.Path.{_≡_, refl, sym, _∙_}
+use mathlib.Core.Bool.{true, false, cond}
+use borrow.Author.Tests.{leb-true, ltb-true, ne-eqb, lt-ltb, le-ltb, le-leb}
+use lib.Dec.{ltb, eqb}
 use lib.IntN.{ℤ, pos, negℤ, natAbs, _-ℤ_}
 use Rattle.whole.proofs.Laws.{ints, read-add, read-neg}
 use Rattle.whole.proofs.Tests.{both}
 use Rattle.refusal.specs.Answer.{given}
-use Rattle.iso_time.specs.Proposal.{isValidTime, nanoseconds, inSeconds, differenceTime, dividend, validIncrement}
-use Rattle.iso_time.specs.Paper.{allBounded, timeDifference}
+use Rattle.options.specs.declared.Unit.{Unit as TemporalUnit}
+use Rattle.options.specs.declared.Unit.the-variants as U
+use Rattle.options.specs.Units.{unitRank}
+use Rattle.iso_time.specs.Proposal.{isValidTime, nanoseconds, inSeconds, differenceTime, unitLength, validateTemporalRoundingIncrement, validIncrement}
+use Rattle.iso_time.specs.Paper.{allBounded, timeDifference, isRoundingUnit}
+use Rattle.iso_time.specs.Inner.{dividend}
 use Rattle.iso_time.specs.declared.IsoTime.{IsoTime}
 use Rattle.iso_time.specs.declared.TimeDuration.{TimeDuration}
 
@@ -29,24 +32,63 @@ all-within h m s ms us ns e =
     let f = both _ _ (d .1) in
     (leb-true _ _ (a .0), (leb-true _ _ (b .0), (leb-true _ _ (c .0), (leb-true _ _ (d .0), (leb-true _ _ (f .0), leb-true _ _ (f .1))))))
 
+-- ---- units: those that a time can be rounded to are those with a length
+
+pub unit-by-length : (unit : TemporalUnit) → isRoundingUnit unit ≡ ltb 0 (unitLength unit)
+unfolding unitLength
+unit-by-length U.Year = refl
+unit-by-length U.Month = refl
+unit-by-length U.Week = refl
+unit-by-length U.Day = refl
+unit-by-length U.Hour = refl
+unit-by-length U.Minute = refl
+unit-by-length U.Second = refl
+unit-by-length U.Millisecond = refl
+unit-by-length U.Microsecond = refl
+unit-by-length U.Nanosecond = refl
+
+pub length-some : (unit : TemporalUnit) → isRoundingUnit unit ≡ true → 0 < unitLength unit
+length-some unit e = ltb-true 0 (unitLength unit) (sym (unit-by-length unit) ∙ e)
+
+pub rank-of-some : (unit : TemporalUnit) → 0 < unitLength unit → 3 ≤ unitRank unit
+rank-of-some unit h = leb-true 3 (unitRank unit) (unit-by-length unit ∙ lt-ltb 0 (unitLength unit) h)
+
+module _ (unit : TemporalUnit) (len : ℕ) (e : len ≡ unitLength unit) where
+  pub no-unit : len ≡ 0 → isRoundingUnit unit ≡ false
+  no-unit h = unit-by-length unit ∙ le-ltb 0 (unitLength unit) (omega arith)
+
+  pub some-unit : (len ≡ 0 → ⊥) → isRoundingUnit unit ≡ true
+  some-unit h = unit-by-length unit ∙ lt-ltb 0 (unitLength unit) (omega arith)
+
 -- ---- increments
 
-module _ (unit : TimeUnit) (inc whole : ℕ) (e : whole ≡ dividend unit) where
+-- by the table of dividends, which has 0 for day
+pub increment-by-dividend : (unit : TemporalUnit) (inc : ℕ) → 3 ≤ unitRank unit →
+    validIncrement unit inc ≡ cond (eqb (dividend unit) 0) (eqb inc 1) (validateTemporalRoundingIncrement inc (dividend unit))
+unfolding validIncrement dividend
+increment-by-dividend U.Year inc h = let f : ⊥ = omega arith in absurd f
+increment-by-dividend U.Month inc h = let f : ⊥ = omega arith in absurd f
+increment-by-dividend U.Week inc h = let f : ⊥ = omega arith in absurd f
+increment-by-dividend U.Day inc h = refl
+increment-by-dividend U.Hour inc h = refl
+increment-by-dividend U.Minute inc h = refl
+increment-by-dividend U.Second inc h = refl
+increment-by-dividend U.Millisecond inc h = refl
+increment-by-dividend U.Microsecond inc h = refl
+increment-by-dividend U.Nanosecond inc h = refl
+
+module _ (unit : TemporalUnit) (inc whole : ℕ) (e : whole ≡ dividend unit) (r : 3 ≤ unitRank unit) where
   pub day-increment : whole ≡ 0 → eqb inc 1 ≡ validIncrement unit inc
-  unfolding validIncrement
-  day-increment h = rw (← e, h)
+  day-increment h = rw (increment-by-dividend unit inc r, ← e, h)
 
   pub no-increment : (whole ≡ 0 → ⊥) → inc ≡ 0 → false ≡ validIncrement unit inc
-  unfolding validIncrement
-  no-increment h i = rw (← e, ne-eqb whole 0 h, i)
+  no-increment h i = rw (increment-by-dividend unit inc r, ← e, ne-eqb whole 0 h, i)
 
   pub large-increment : (whole ≡ 0 → ⊥) → (inc ≡ 0 → ⊥) → whole ≤ inc → false ≡ validIncrement unit inc
-  unfolding validIncrement
-  large-increment h i l = rw (← e, ne-eqb whole 0 h, lt-ltb 0 inc (omega arith), le-ltb inc whole l)
+  large-increment h i l = rw (increment-by-dividend unit inc r, ← e, ne-eqb whole 0 h, le-leb 1 inc (omega arith), le-ltb inc whole l)
 
   pub small-increment : (whole ≡ 0 → ⊥) → (inc ≡ 0 → ⊥) → inc < whole → eqb (whole % inc) 0 ≡ validIncrement unit inc
-  unfolding validIncrement
-  small-increment h i l = rw (← e, ne-eqb whole 0 h, lt-ltb 0 inc (omega arith), lt-ltb inc whole l)
+  small-increment h i l = rw (increment-by-dividend unit inc r, ← e, ne-eqb whole 0 h, le-leb 1 inc (omega arith), lt-ltb inc whole l)
 
 -- ---- a span in seconds and nanoseconds
 

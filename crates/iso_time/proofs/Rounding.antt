@@ -3,27 +3,29 @@ use Prim.Native.Nat.{ℕ, _+_, _-_, _*_, _/_, _≤_, _<_}
 use native.Mathlib.Nat.{mul-div-cancel, mul-assoc, mul-pos, mul-le-mul-right, le-of-lt, le-trans}
 use native.Mathlib.Omega.{arith}
 use mathlib.Core.Path.{_≡_, refl, sym, _∙_, ap}
-use mathlib.Core.Bool.{Bool, true, false}
+use mathlib.Core.Bool.{Bool, true, false, cond}
 use lib.Dec.{eqb}
-use borrow.Author.Tests.{eqb-true, ltb-true}
+use borrow.Author.Tests.{eqb-true, leb-true, ltb-true}
 use lib.IntN.{pos}
 use Rattle.whole.specs.Whole.{fdiv}
 use Rattle.whole.proofs.Tests.{both}
-use Rattle.options.specs.declared.Unit.{Unit as TimeUnit}
+use Rattle.options.specs.declared.Unit.{Unit as TemporalUnit}
 use Rattle.options.specs.declared.Unit.the-variants as U
 use Rattle.rounding.specs.Proposal.{getUnsignedRoundingMode}
 use Rattle.rounding.specs.Inner.{roundedSize}
 use Rattle.rounding.specs.declared.RoundingMode.{RoundingMode}
 use Rattle.rounding.specs.declared.UnsignedRoundingMode.{UnsignedRoundingMode}
 use Rattle.rounding.proofs.Rounds.{number-above, rounded-multiple}
-use Rattle.iso_time.specs.Proposal.{time, nanoseconds, quantity, unitLength, roundedUnits, withUnits, roundTime, dividend, validIncrement}
-use Rattle.iso_time.specs.Inner.{nsPerDay, Carried}
+use Rattle.iso_time.specs.Proposal.{time, nanoseconds, quantity, unitLength, roundedUnits, withUnits, roundTime, validateTemporalRoundingIncrement, validIncrement}
+use Rattle.iso_time.specs.Inner.{nsPerDay, Carried, dividend}
+use Rattle.iso_time.specs.Claims.{exact}
 use Rattle.iso_time.specs.declared.IsoTime.{IsoTime}
 use Rattle.iso_time.specs.declared.BalancedTime.{BalancedTime}
-use Rattle.iso_time.proofs.Times.{Valid, read-valid, exact, balance-exact, balance-valid, one-balanced}
+use Rattle.iso_time.proofs.Times.{Valid, read-valid, balance-exact, balance-valid, one-balanced}
+use Rattle.iso_time.proofs.Checks.{rank-of-some, increment-by-dividend}
 
 -- the larger fields kept and k units put in the field: so many nanoseconds, and a valid time
-with-units : (unit : TimeUnit) (t : IsoTime) (k : ℕ) → 0 < unitLength unit →
+with-units : (unit : TemporalUnit) (t : IsoTime) (k : ℕ) → 0 < unitLength unit →
     (exact (withUnits unit t (pos k)) ≡ pos (nanoseconds t - quantity unit t + k * unitLength unit)) × Valid (withUnits unit t (pos k) .time)
 unfolding unitLength quantity nanoseconds
 with-units U.Year t k h = let f : ⊥ = omega arith in absurd f
@@ -40,7 +42,7 @@ with-units U.Millisecond t k h = (balance-exact _ _ _ _ _ _ ∙ ap pos (omega ar
 with-units U.Microsecond t k h = (balance-exact _ _ _ _ _ _ ∙ ap pos (omega arith), balance-valid _ _ _ _ _ _)
 with-units U.Nanosecond t k h = (balance-exact _ _ _ _ _ _ ∙ ap pos (omega arith), balance-valid _ _ _ _ _ _)
 
-pub quantity-le : (unit : TimeUnit) (t : IsoTime) → quantity unit t ≤ nanoseconds t
+pub quantity-le : (unit : TemporalUnit) (t : IsoTime) → quantity unit t ≤ nanoseconds t
 unfolding quantity nanoseconds
 quantity-le U.Year t = omega arith
 quantity-le U.Month t = omega arith
@@ -54,7 +56,7 @@ quantity-le U.Microsecond t = omega arith
 quantity-le U.Nanosecond t = omega arith
 
 -- so many of a unit as make the next are at most a day
-next-le : (unit : TimeUnit) → dividend unit * unitLength unit ≤ nsPerDay
+next-le : (unit : TemporalUnit) → dividend unit * unitLength unit ≤ nsPerDay
 unfolding dividend unitLength
 next-le U.Year = omega arith
 next-le U.Month = omega arith
@@ -67,7 +69,7 @@ next-le U.Millisecond = omega arith
 next-le U.Microsecond = omega arith
 next-le U.Nanosecond = omega arith
 
-length-le : (unit : TimeUnit) → unitLength unit ≤ nsPerDay
+length-le : (unit : TemporalUnit) → unitLength unit ≤ nsPerDay
 unfolding unitLength
 length-le U.Year = omega arith
 length-le U.Month = omega arith
@@ -81,17 +83,19 @@ length-le U.Microsecond = omega arith
 length-le U.Nanosecond = omega arith
 
 -- an increment that is allowed makes a step of at most a day
-module _ (unit : TimeUnit) (inc : ℕ) (some : 0 < unitLength unit) (ok : validIncrement unit inc ≡ true) where
+module _ (unit : TemporalUnit) (inc : ℕ) (some : 0 < unitLength unit) (ok : validIncrement unit inc ≡ true) where
+  ok-by-dividend : cond (eqb (dividend unit) 0) (eqb inc 1) (validateTemporalRoundingIncrement inc (dividend unit)) ≡ true
+  ok-by-dividend = sym (increment-by-dividend unit inc (rank-of-some unit some)) ∙ ok
+
   by-dividend : (t : Bool) → eqb (dividend unit) 0 ≡ t → (0 < inc) × (inc * unitLength unit ≤ nsPerDay)
-  unfolding validIncrement
   by-dividend true e =
-      let i : inc ≡ 1 = eqb-true inc 1 (rw e at ok) in
+      let i : inc ≡ 1 = eqb-true inc 1 (rw e at ok-by-dividend) in
       (omega arith, rw i (omega (arith, length-le unit)))
   by-dividend false e =
-      let a = both _ _ (rw e at ok) in
+      let a = both _ _ (rw e at ok-by-dividend) in
       let b = both _ _ (a .1) in
       let l : inc < dividend unit = ltb-true inc (dividend unit) (b .0) in
-      (ltb-true 0 inc (a .0), le-trans (mul-le-mul-right (unitLength unit) (le-of-lt l)) (next-le unit))
+      (leb-true 1 inc (a .0), le-trans (mul-le-mul-right (unitLength unit) (le-of-lt l)) (next-le unit))
 
   pub allowed : (0 < inc) × (inc * unitLength unit ≤ nsPerDay)
   allowed = by-dividend (eqb (dividend unit) 0) refl
@@ -106,7 +110,7 @@ multiple-of q inc len r p e =
     let f : q * inc * len ≡ r = mul-assoc q inc len ∙ e in
     (rw (← f) (mul-div-cancel (q * inc) p), f)
 
-module _ (t : IsoTime) (unit : TimeUnit) (inc : ℕ) (mode : RoundingMode) (some : 0 < unitLength unit)
+module _ (t : IsoTime) (unit : TemporalUnit) (inc : ℕ) (mode : RoundingMode) (some : 0 < unitLength unit)
     (ok : validIncrement unit inc ≡ true) where
   abbrev step : ℕ
   step = inc * unitLength unit

@@ -11,6 +11,7 @@ use Rattle.whole.proofs.Laws.{parts, whole, ints, ⊖-sum, fdiv-fmod, fdiv-uniq
 use Rattle.whole.proofs.Tests.{both}
 use Rattle.iso_time.specs.Proposal.{time, isValidTime, balanced, balanceTime, nanoseconds}
 use Rattle.iso_time.specs.Inner.{fieldBias, nsPerDay}
+use Rattle.iso_time.specs.Claims.{exact, flat}
 use Rattle.iso_time.specs.declared.IsoTime.{IsoTime}
 use Rattle.iso_time.specs.declared.BalancedTime.{BalancedTime}
 
@@ -119,13 +120,6 @@ module _ (h m s ms us ns : ℤ) (n0 a1 a2 a3 a4 a5 : ℕ)
       ap₂ balanced (e ∙ sym (s5 .0)) (time-eq _ _ _ _ _ _ _ _ _ _ _ _ (sym (s5 .1)) (sym (s4 .1)) (sym (s3 .1)) (sym (s2 .1)) (sym (s1 .1)) (sym (s0 .1)))
 
 -- ---- balancing is inverse to flattening: the exact nanoseconds stay as they are, and no other carry and time have them
-
-abbrev pub exact : BalancedTime → ℤ
-exact b = pos nsPerDay *ℤ b .days +ℤ pos (nanoseconds (b .time))
-
-abbrev pub flat : ℤ → ℤ → ℤ → ℤ → ℤ → ℤ → ℤ
-flat h m s ms us ns =
-    pos 3_600_000_000_000 *ℤ h +ℤ pos 60_000_000_000 *ℤ m +ℤ pos 1_000_000_000 *ℤ s +ℤ pos 1_000_000 *ℤ ms +ℤ pos 1000 *ℤ us +ℤ ns
 
 less : (x q w : ℤ) → x +ℤ q ≡ w → x ≡ w -ℤ q
 less x q w e = omega (arith, ints, read-add x q, read-add w (negℤ q), read-neg q)

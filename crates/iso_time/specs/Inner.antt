@@ -3,6 +3,8 @@ use Prim.Native.Nat.{ℕ}
 use mathlib.Core.Path.{_≡_}
 use mathlib.Core.Bool.{true}
 use lib.IntN.{pos, _+ℤ_, _*ℤ_}
+use Rattle.options.specs.declared.Unit.{Unit as TemporalUnit}
+use Rattle.options.specs.declared.Unit.the-variants as U
 use Rattle.iso_time.specs.Proposal.{nanoseconds, isValidTime}
 use Rattle.iso_time.specs.declared.BalancedTime.{BalancedTime}
 
@@ -17,3 +19,16 @@ nsPerDay = 86_400_000_000_000
 pub record Carried (n : ℕ) (b : BalancedTime) : Type 0 where
   pub exactly : pos nsPerDay *ℤ b .days +ℤ pos (nanoseconds (b .time)) ≡ pos n
   pub valid : isValidTime (b .time) ≡ true
+
+-- how many of a unit make the next; 0 for day and above
+unfoldable pub dividend : TemporalUnit → ℕ
+dividend U.Year = 0
+dividend U.Month = 0
+dividend U.Week = 0
+dividend U.Day = 0
+dividend U.Hour = 24
+dividend U.Minute = 60
+dividend U.Second = 60
+dividend U.Millisecond = 1000
+dividend U.Microsecond = 1000
+dividend U.Nanosecond = 1000

@@ -1,14 +1,15 @@
 -- What the calls of modules 3 and 5 answer, for every input: the checks in their order with their numbers, then the answer.
-use Rattle.options.specs.declared.Unit.{Unit as TimeUnit}
 use Prim.Native.Nat.{ℕ}
 use mathlib.Core.Bool.{Bool, _&&_}
-use lib.Dec.{leb, ltb}
+use lib.Dec.{leb}
 use lib.IntN.{ℤ, natAbs}
 use Rattle.refusal.specs.Answer.{Answer, given, refused, check}
 use Rattle.options.specs.declared.Overflow.{Overflow}
 use Rattle.options.specs.declared.Overflow.the-variants.{Constrain, Reject}
+use Rattle.options.specs.declared.Unit.{Unit as TemporalUnit}
+use Rattle.options.specs.Units.{unitRank}
 use Rattle.rounding.specs.declared.RoundingMode.{RoundingMode}
-use Rattle.iso_time.specs.Proposal.{isValidTime, constrainTime, balanceTime, differenceTime, roundTime, unitLength, validIncrement}
+use Rattle.iso_time.specs.Proposal.{isValidTime, constrainTime, balanceTime, differenceTime, roundTime, validIncrement}
 use Rattle.iso_time.specs.declared.IsoTime.{IsoTime}
 use Rattle.iso_time.specs.declared.BalancedTime.{BalancedTime}
 use Rattle.iso_time.specs.declared.TimeDuration.{TimeDuration}
@@ -52,8 +53,13 @@ balanceTimeFields h m s ms us ns = check (allBounded h m s ms us ns) 7 (given (b
 unfoldable pub timeDifference : IsoTime → IsoTime → Answer TimeDuration
 timeDifference one two = check (isValidTime one) 1 (check (isValidTime two) 1 (given (differenceTime one two)))
 
--- ---- module 5: time rounding. A unit above day is 5, an increment that is not allowed 6
+-- ---- module 5: time rounding
 
-unfoldable pub roundedTime : IsoTime → TimeUnit → ℕ → RoundingMode → Answer BalancedTime
+-- the units that a time can be rounded to: day to nanosecond
+abbrev pub isRoundingUnit : TemporalUnit → Bool
+isRoundingUnit unit = leb 3 (unitRank unit)
+
+-- the fields (1), the unit (5), the increment (6)
+unfoldable pub roundedTime : IsoTime → TemporalUnit → ℕ → RoundingMode → Answer BalancedTime
 roundedTime t unit inc mode =
-    check (isValidTime t) 1 (check (ltb 0 (unitLength unit)) 5 (check (validIncrement unit inc) 6 (given (roundTime t inc unit mode))))
+    check (isValidTime t) 1 (check (isRoundingUnit unit) 5 (check (validIncrement unit inc) 6 (given (roundTime t inc unit mode))))

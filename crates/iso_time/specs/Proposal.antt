@@ -1,12 +1,12 @@
 -- The steps of the TC39 Temporal proposal that times lean on, under their names and in their order. All numbers are whole numbers of
 -- any size; `fdiv a n` is ⌊a / n⌋, `fmod a n` is a - n × ⌊a / n⌋.
 use Prim.Native.Nat.{ℕ, _+_, _*_, _%_, min}
-use mathlib.Core.Bool.{Bool, cond, _&&_}
+use mathlib.Core.Bool.{Bool, false, _&&_}
 use lib.Dec.{leb, ltb, eqb}
 use lib.IntN.{ℤ, pos, _+ℤ_, _-ℤ_}
 use lib.Signed.{quotZ, remZ}
 use Rattle.whole.specs.Whole.{fdiv, fmod}
-use Rattle.options.specs.declared.Unit.{Unit as TimeUnit}
+use Rattle.options.specs.declared.Unit.{Unit as TemporalUnit}
 use Rattle.options.specs.declared.Unit.the-variants as U
 use Rattle.rounding.specs.Proposal.{roundNumberToIncrement}
 use Rattle.rounding.specs.declared.RoundingMode.{RoundingMode}
@@ -30,10 +30,10 @@ unfoldable pub constrainTime : IsoTime → IsoTime
 constrainTime t =
     time (min 23 (t .hour)) (min 59 (t .minute)) (min 59 (t .second)) (min 999 (t .millisecond)) (min 999 (t .microsecond)) (min 999 (t .nanosecond))
 
--- BalanceTime(h, min, s, ms, µs, ns): what is over in a field is carried into the next
 abbrev pub balanced : ℤ → IsoTime → BalancedTime
 balanced d t = record { days = d; time = t }
 
+-- BalanceTime(h, min, s, ms, µs, ns): what is over in a field is carried into the next
 unfoldable pub balanceTime : ℤ → ℤ → ℤ → ℤ → ℤ → ℤ → BalancedTime
 balanceTime hour minute second millisecond microsecond nanosecond =
     let microsecond′ : ℤ = microsecond +ℤ fdiv nanosecond 1000 in
@@ -61,17 +61,22 @@ nsFromMinute t = t .minute * 60_000_000_000 + nsFromSecond t
 unfoldable pub nanoseconds : IsoTime → ℕ
 nanoseconds t = t .hour * 3_600_000_000_000 + nsFromMinute t
 
--- DifferenceTime(one, two): the exact nanoseconds of two less those of one, as whole seconds and what is left, cut towards zero
+-- the exact nanoseconds from one time to another: those of two less those of one
+abbrev pub nanosecondsUntil : IsoTime → IsoTime → ℤ
+nanosecondsUntil one two = pos (nanoseconds two) -ℤ pos (nanoseconds one)
+
+-- nanoseconds as whole seconds and what is left, cut towards zero
 abbrev pub inSeconds : ℤ → TimeDuration
 inSeconds ns = record { seconds = quotZ ns (pos 1_000_000_000); nanoseconds = remZ ns (pos 1_000_000_000) }
 
+-- DifferenceTime(one, two)
 unfoldable pub differenceTime : IsoTime → IsoTime → TimeDuration
-differenceTime one two = inSeconds (pos (nanoseconds two) -ℤ pos (nanoseconds one))
+differenceTime one two = inSeconds (nanosecondsUntil one two)
 
 -- ---- Rounding
 
 -- the length of a unit in nanoseconds; 0 for those that a time is not rounded to
-unfoldable pub unitLength : TimeUnit → ℕ
+unfoldable pub unitLength : TemporalUnit → ℕ
 unitLength U.Year = 0
 unitLength U.Month = 0
 unitLength U.Week = 0
@@ -84,7 +89,7 @@ unitLength U.Microsecond = 1000
 unitLength U.Nanosecond = 1
 
 -- the quantity that is rounded: the nanoseconds of the unit's field and all below it, for day and hour of the whole time
-unfoldable pub quantity : TimeUnit → IsoTime → ℕ
+unfoldable pub quantity : TemporalUnit → IsoTime → ℕ
 quantity U.Year t = 0
 quantity U.Month t = 0
 quantity U.Week t = 0
@@ -96,14 +101,13 @@ quantity U.Millisecond t = nsFromMillisecond t
 quantity U.Microsecond t = nsFromMicrosecond t
 quantity U.Nanosecond t = t .nanosecond
 
--- RoundNumberToIncrement(quantity, inc × length of the unit, mode) / length
-unfoldable pub roundedUnits : IsoTime → ℕ → TimeUnit → RoundingMode → ℤ
+-- the quantity in units, rounded: RoundNumberToIncrement by a step of so many units as the increment says, over the length of one
+unfoldable pub roundedUnits : IsoTime → ℕ → TemporalUnit → RoundingMode → ℤ
 roundedUnits t inc unit mode =
     fdiv (roundNumberToIncrement (pos (quantity unit t)) (inc * unitLength unit) mode) (unitLength unit)
 
--- RoundTime(time, inc, unit, mode): the larger fields kept, the rounded quantity in the unit's field, zeros below; for day the result is
--- the days and the time is midnight
-abbrev pub withUnits : TimeUnit → IsoTime → ℤ → BalancedTime
+-- the larger fields kept, so many of the unit in its field, zeros below; for day they are the days and the time is midnight
+abbrev pub withUnits : TemporalUnit → IsoTime → ℤ → BalancedTime
 withUnits U.Year t r = balanced (pos 0) t
 withUnits U.Month t r = balanced (pos 0) t
 withUnits U.Week t r = balanced (pos 0) t
@@ -115,22 +119,23 @@ withUnits U.Millisecond t r = balanceTime (pos (t .hour)) (pos (t .minute)) (pos
 withUnits U.Microsecond t r = balanceTime (pos (t .hour)) (pos (t .minute)) (pos (t .second)) (pos (t .millisecond)) r (pos 0)
 withUnits U.Nanosecond t r = balanceTime (pos (t .hour)) (pos (t .minute)) (pos (t .second)) (pos (t .millisecond)) (pos (t .microsecond)) r
 
-unfoldable pub roundTime : IsoTime → ℕ → TimeUnit → RoundingMode → BalancedTime
+-- RoundTime(time, inc, unit, mode): the larger fields kept, and the rounded quantity in the unit's field
+unfoldable pub roundTime : IsoTime → ℕ → TemporalUnit → RoundingMode → BalancedTime
 roundTime t inc unit mode = withUnits unit t (roundedUnits t inc unit mode)
 
--- ValidateTemporalRoundingIncrement: below the dividend and dividing it; for day 1 alone
-unfoldable pub dividend : TimeUnit → ℕ
-dividend U.Year = 0
-dividend U.Month = 0
-dividend U.Week = 0
-dividend U.Day = 0
-dividend U.Hour = 24
-dividend U.Minute = 60
-dividend U.Second = 60
-dividend U.Millisecond = 1000
-dividend U.Microsecond = 1000
-dividend U.Nanosecond = 1000
+-- ValidateTemporalRoundingIncrement(inc, dividend, not inclusive): from 1, below the dividend and dividing it
+abbrev pub validateTemporalRoundingIncrement : ℕ → ℕ → Bool
+validateTemporalRoundingIncrement inc dividend = leb 1 inc && (ltb inc dividend && eqb (dividend % inc) 0)
 
-unfoldable pub validIncrement : TimeUnit → ℕ → Bool
-validIncrement unit inc =
-    cond (eqb (dividend unit) 0) (eqb inc 1) (ltb 0 inc && (ltb inc (dividend unit) && eqb (dividend unit % inc) 0))
+-- the increments that are allowed at a unit: at day 1 alone; at those that a time is not rounded to none
+unfoldable pub validIncrement : TemporalUnit → ℕ → Bool
+validIncrement U.Year inc = false
+validIncrement U.Month inc = false
+validIncrement U.Week inc = false
+validIncrement U.Day inc = eqb inc 1
+validIncrement U.Hour inc = validateTemporalRoundingIncrement inc 24
+validIncrement U.Minute inc = validateTemporalRoundingIncrement inc 60
+validIncrement U.Second inc = validateTemporalRoundingIncrement inc 60
+validIncrement U.Millisecond inc = validateTemporalRoundingIncrement inc 1000
+validIncrement U.Microsecond inc = validateTemporalRoundingIncrement inc 1000
+validIncrement U.Nanosecond inc = validateTemporalRoundingIncrement inc 1000

@@ -9,8 +9,9 @@ ghost use mathlib.Core.Bool.{true};
 ghost use Prim.Native.Nat.{_+_, _*_, _≤_, _<_};
 ghost use lib.IntN.{natAbs, pos, _-ℤ_};
 ghost use Rattle.whole.specs.Whole.{_⊖_};
-ghost use Rattle.iso_time.specs.Proposal.{isValidTime, balanceTime, nsFromMillisecond, nanoseconds, quantity, unitLength, dividend, validIncrement, roundTime, inSeconds};
-ghost use Rattle.iso_time.specs.Inner.{fieldBias, nsPerDay, Carried};
+ghost use Rattle.options.specs.Units.{unitRank};
+ghost use Rattle.iso_time.specs.Proposal.{isValidTime, balanceTime, nsFromMillisecond, nanoseconds, quantity, unitLength, validIncrement, roundTime, inSeconds};
+ghost use Rattle.iso_time.specs.Inner.{fieldBias, nsPerDay, Carried, dividend};
 
 // More than the bound of a field to be balanced, and divided by each of 1000, 60 and 24 as often as the carry meets them.
 const FIELD_BIAS: u64 = 10_800_000_000_000_000;
@@ -152,8 +153,10 @@ fn dividend_of(unit: Unit) -> u64
     }
 }
 
-// Whether an increment is allowed at a unit: 1 for day, a proper divisor of how many make the next for the others.
+// Whether an increment is allowed at a unit that a time can be rounded to: 1 for day, a proper divisor of how many make the next for
+// the others.
 pub fn is_increment(unit: Unit, increment: u64) -> bool
+    requires { ⌜ 3 ≤ unitRank unit ⌝ }
     ensures { λ r. ⌜ r ≡ validIncrement unit increment ⌝ }
 {
     let whole = dividend_of(unit);

@@ -17,7 +17,7 @@ use Rattle.date_duration.specs.declared.Part.{Part}
 use Rattle.date_duration.specs.declared.Part.the-variants as P
 use Rattle.options.specs.declared.Overflow.{Overflow}
 use Rattle.options.specs.declared.Overflow.the-variants.{Constrain, Reject}
-use Rattle.options.specs.declared.Unit.{Unit as TimeUnit}
+use Rattle.options.specs.declared.Unit.{Unit as TemporalUnit}
 use Rattle.options.specs.declared.Unit.the-variants as U
 use Rattle.rounding.specs.declared.RoundingMode.{RoundingMode}
 use Rattle.rounding.specs.declared.RoundingMode.the-variants as M
@@ -70,13 +70,13 @@ abbrev pub dateTimeAt : List ℤ → ℕ → IsoDateTime
 dateTimeAt zs i = dateTime (dateAt zs i) (timeAt zs (i + 3))
 
 -- units and modes by their numbers, from 0
-abbrev pub units : List TimeUnit
+abbrev pub units : List TemporalUnit
 units = U.Year ∷ U.Month ∷ U.Week ∷ U.Day ∷ U.Hour ∷ U.Minute ∷ U.Second ∷ U.Millisecond ∷ U.Microsecond ∷ U.Nanosecond ∷ []
 
 abbrev pub modes : List RoundingMode
 modes = M.Ceil ∷ M.Floor ∷ M.Expand ∷ M.Trunc ∷ M.HalfCeil ∷ M.HalfFloor ∷ M.HalfExpand ∷ M.HalfTrunc ∷ M.HalfEven ∷ []
 
-abbrev pub unitOf : ℤ → TimeUnit
+abbrev pub unitOf : ℤ → TemporalUnit
 unitOf z = getD units (natAbs z) U.Year
 
 abbrev pub modeOf : ℤ → RoundingMode

@@ -10,7 +10,7 @@ use Rattle.iso_date.specs.Paper.{balanced, dateToDay, dayToDate, dateLimits, re
 use Rattle.iso_date.specs.declared.IsoDate.{IsoDate}
 use Rattle.rounding.specs.Proposal.{getUnsignedRoundingMode, applyUnsignedRoundingMode, roundQuotient, roundNumberToIncrement, roundNumberToIncrementAsIfPositive}
 use Rattle.rounding.specs.Paper.{inSigned64, roundNumber, roundNumberAsIfPositive}
-use Rattle.iso_time.specs.Proposal.{isValidTime, balanceTime, nanoseconds, unitLength, quantity, roundedUnits, roundTime, dividend, validIncrement}
+use Rattle.iso_time.specs.Proposal.{isValidTime, balanceTime, nanoseconds, unitLength, quantity, roundedUnits, roundTime, validIncrement}
 use Rattle.iso_time.specs.Paper.{allBounded, balanceTimeFields, roundedTime}
 use Rattle.date_duration.specs.Proposal.{anyBelow, anyAbove, small, smallDays, allSmall, isValidDuration}
 use Rattle.date_math.specs.Proposal.{movedBy, isLater, kept, yearsUntil, monthsUntil, restStart, daysUntil, yearsFound, monthsFound, weeksFound, dateUntil, calendarDateUntil}
@@ -78,6 +78,6 @@ whole-span =
     ap given (difference-is true one two U.Year refl refl 210271258 25 refl refl))
 
 pub every-row : Holds table
-unfolding meaningOf fdiv fmod clampZ dayFromYear leapYear monthLengths isoDaysInMonth daysBeforeMonth dayFromMonth isoDateToEpochDays isValidISODate yearFromDay monthOf dayOf epochDaysToISODate constrainISODate nsWithinLimits balanced dateToDay dayToDate dateLimits regulateDate makeDate getUnsignedRoundingMode applyUnsignedRoundingMode roundQuotient roundNumberToIncrement roundNumberToIncrementAsIfPositive inSigned64 roundNumber roundNumberAsIfPositive isValidTime balanceTime nanoseconds unitLength quantity roundedUnits roundTime dividend validIncrement allBounded balanceTimeFields roundedTime anyBelow anyAbove small smallDays allSmall isValidDuration movedBy isLater kept yearsUntil monthsUntil restStart daysUntil yearsFound monthsFound weeksFound dateUntil calendarDateUntil sumSteps dateSum dateDifference
+unfolding meaningOf fdiv fmod clampZ dayFromYear leapYear monthLengths isoDaysInMonth daysBeforeMonth dayFromMonth isoDateToEpochDays isValidISODate yearFromDay monthOf dayOf epochDaysToISODate constrainISODate nsWithinLimits balanced dateToDay dayToDate dateLimits regulateDate makeDate getUnsignedRoundingMode applyUnsignedRoundingMode roundQuotient roundNumberToIncrement roundNumberToIncrementAsIfPositive inSigned64 roundNumber roundNumberAsIfPositive isValidTime balanceTime nanoseconds unitLength quantity roundedUnits roundTime validIncrement allBounded balanceTimeFields roundedTime anyBelow anyAbove small smallDays allSmall isValidDuration movedBy isLater kept yearsUntil monthsUntil restStart daysUntil yearsFound monthsFound weeksFound dateUntil calendarDateUntil sumSteps dateSum dateDifference
 every-row =
     (refl, (refl, (refl, (refl, (refl, (refl, (refl, (refl, (refl, (refl, (refl, (refl, (refl, (refl, (whole-span, (refl, (refl, tt)))))))))))))))))

@@ -4,8 +4,11 @@ use mathlib.Core.Path.{_≡_, sym, _∙_, ap}
 use mir.Facts.{toZ-ofZ}
 use mir.Syntax.{w64}
 use mir.Val.{toZ, ofZ}
+use Rattle.refusal.specs.Answer.{given}
 use Rattle.iso_date.specs.Paper.{ofDate}
 use Rattle.iso_time.specs.Paper.{ofBalance}
+use Rattle.iso_date_time.specs.Proposal.{dateTime}
+use Rattle.iso_date_time.specs.Paper.{balanceDateTime}
 use Rattle.iso_date_time.proofs.Moments.{balance-bound, balance-count, balance-is, carry-small}
 use Rattle.iso_date_time.proofs.IsoDateTime.balance.Statement.{statement}
 use Rattle.iso_date_time.proofs.IsoDateTime.balance.Tie as tie
@@ -50,8 +53,11 @@ returns-2 c =
     let d = rw (toZ-ofZ (f .year), toZ-ofZ (f .month), toZ-ofZ (f .day), days) at (c .before .before .balance-sum .ensures) in
     balance-count _ _ _ _ _ _ _ _ _ _ _ is (sym (ap ofDate (c .enum-told2 .given .1)) ∙ d)
 
-returns-3 : tie.Need-returns-3
-returns-3 c =
+-- what is given, by the exact count
+given-is : (c : tie.After-time) →
+    given (dateTime (c .before .before .date .given .0 .0) (c .before .before .before .before .before .before .before .balanced .given .0 .0 .time)) ≡
+    balanceDateTime (c .before .before .before .before .before .before .before .before .before .before .args .year) (c .before .before .before .before .before .before .before .before .before .before .args .month) (c .before .before .before .before .before .before .before .before .before .before .args .day) (c .before .before .before .before .before .before .before .before .before .before .args .hour) (c .before .before .before .before .before .before .before .before .before .before .args .minute) (c .before .before .before .before .before .before .before .before .before .before .args .second) (c .before .before .before .before .before .before .before .before .before .before .args .millisecond) (c .before .before .before .before .before .before .before .before .before .before .args .microsecond) (c .before .before .before .before .before .before .before .before .before .before .args .nanosecond)
+given-is c =
     let f = c .before .before .before .before .before .before .before .before .before .before .fits in
     let t = rw (toZ-ofZ (f .hour), toZ-ofZ (f .minute), toZ-ofZ (f .second), toZ-ofZ (f .millisecond), toZ-ofZ (f .microsecond), toZ-ofZ (f .nanosecond)) at (c .before .before .before .before .before .before .before .before .before .balance .ensures) in
     let b = c .before .before .before .before .before .before .before .balanced .given .0 .0 in
@@ -59,6 +65,9 @@ returns-3 c =
     let is = sym (ap ofBalance (c .before .before .before .before .before .before .before .balanced .given .1)) ∙ t in
     let d = rw (toZ-ofZ (f .year), toZ-ofZ (f .month), toZ-ofZ (f .day), days) at (c .before .before .before .before .balance-sum .ensures) in
     balance-is _ _ _ _ _ _ _ _ _ _ _ is (sym (ap ofDate (c .before .before .date .given .1)) ∙ d)
+
+returns-3 : tie.Need-returns-3
+returns-3 c = given-is c
 
 pub balance-spec : {M : Type 1} → statement M
 balance-spec =

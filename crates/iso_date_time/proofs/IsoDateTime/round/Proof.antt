@@ -8,7 +8,7 @@ use Rattle.iso_date.specs.Proposal.{epochDays}
 use Rattle.iso_date.specs.Paper.{ofLimit, ofDate, dayToDate}
 use Rattle.iso_time.specs.Paper.{ofBalance}
 use Rattle.iso_date_time.proofs.Moments.{limits-fine}
-use Rattle.iso_date_time.proofs.Roundings.{rounded, few-days, day-valid, days-alone, round-record, round-time, round-count, round-limits}
+use Rattle.iso_date_time.proofs.Roundings.{rounded, few-days, day-valid, days-alone, round-record, round-time, count-never-refused, round-limits}
 use Rattle.iso_date_time.proofs.IsoDateTime.round.Statement.{statement}
 use Rattle.iso_date_time.proofs.IsoDateTime.round.Tie as tie
 
@@ -60,7 +60,7 @@ returns-3 : tie.Need-returns-3
 returns-3 c =
     let b = c .before .before .before .before .before .before .rounded .given .0 .0 in
     let days : toZ w64 (ofZ w64 (b .days)) ≡ b .days = search needs in
-    round-count _ _ _ _ b (sym (ap ofLimit (c .before .before .before .before .before .before .before .before .before .before .enum-told .given .1)) ∙ c .before .before .before .before .before .before .before .before .before .before .before .before .check-within-limits .ensures) (sym (ap ofBalance (c .before .before .before .before .before .before .rounded .given .1)) ∙ c .before .before .before .before .before .before .before .before .round .ensures) _ (sym (ap ofDate (c .enum-told4 .given .1)) ∙ (rw days at (c .before .before .add-days .ensures) ∙ ap dayToDate (days-alone (epochDays (c .before .before .before .before .before .before .before .before .before .before .before .before .before .args .self .date)) (b .days))))
+    absurd (count-never-refused _ _ _ _ b (sym (ap ofLimit (c .before .before .before .before .before .before .before .before .before .before .enum-told .given .1)) ∙ c .before .before .before .before .before .before .before .before .before .before .before .before .check-within-limits .ensures) (sym (ap ofBalance (c .before .before .before .before .before .before .rounded .given .1)) ∙ c .before .before .before .before .before .before .before .before .round .ensures) _ (sym (ap ofDate (c .enum-told4 .given .1)) ∙ (rw days at (c .before .before .add-days .ensures) ∙ ap dayToDate (days-alone (epochDays (c .before .before .before .before .before .before .before .before .before .before .before .before .before .args .self .date)) (b .days)))))
 
 limited-requires : tie.Need-limited-requires
 limited-requires c κs = (

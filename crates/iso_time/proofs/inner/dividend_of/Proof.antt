@@ -1,6 +1,6 @@
 -- By the table of dividends.
 use borrow.Author.Needs.{needs}
-use Rattle.iso_time.specs.Proposal.{dividend}
+use Rattle.iso_time.specs.Inner.{dividend}
 use Rattle.iso_time.proofs.inner.dividend_of.Statement.{statement}
 use Rattle.iso_time.proofs.inner.dividend_of.Tie as tie
 

@@ -8,19 +8,19 @@ dividend-of-requires : tie.Need-dividend-of-requires
 dividend-of-requires c κs = search needs
 
 returns : tie.Need-returns
-returns c = day-increment _ _ _ (c .before .dividend-of .ensures) (c .if1 .taken)
+returns c = day-increment _ _ _ (c .before .dividend-of .ensures) (c .before .before .pre) (c .if1 .taken)
 
 returns-2 : tie.Need-returns-2
-returns-2 c = no-increment _ _ _ (c .before .before .dividend-of .ensures) (c .before .if1 .left) (c .if2 .taken)
+returns-2 c = no-increment _ _ _ (c .before .before .dividend-of .ensures) (c .before .before .before .pre) (c .before .if1 .left) (c .if2 .taken)
 
 returns-3 : tie.Need-returns-3
-returns-3 c = large-increment _ _ _ (c .before .before .before .dividend-of .ensures) (c .before .before .if1 .left) (c .before .if2 .left) (c .if3 .taken)
+returns-3 c = large-increment _ _ _ (c .before .before .before .dividend-of .ensures) (c .before .before .before .before .pre) (c .before .before .if1 .left) (c .before .if2 .left) (c .if3 .taken)
 
 rem-result : tie.Need-rem-result
 rem-result c = search needs
 
 returns-4 : tie.Need-returns-4
-returns-4 c = small-increment _ _ _ (c .before .before .before .dividend-of .ensures) (c .before .before .if1 .left) (c .before .if2 .left) (c .if3 .left)
+returns-4 c = small-increment _ _ _ (c .before .before .before .dividend-of .ensures) (c .before .before .before .before .pre) (c .before .before .if1 .left) (c .before .if2 .left) (c .if3 .left)
 
 pub is-increment-spec : {M : Type 1} → statement M
 is-increment-spec =
