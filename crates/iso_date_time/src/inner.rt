@@ -31,6 +31,11 @@ ghost use Rattle.iso_date_time.specs.Inner.{Turns};
 
 const NS_PER_DAY: u64 = 86_400_000_000_000;
 
+// The same with a sign, for the bounds of what is handed in.
+const DAY_AFTER: i64 = 86_400_000_000_000;
+
+const DAY_BEFORE: i64 = -86_400_000_000_000;
+
 const NS_PER_SECOND: u64 = 1_000_000_000;
 
 const SECONDS_PER_DAY: u64 = 86_400;
@@ -184,7 +189,7 @@ pub fn is_instant(day: i64, nanosecond: i64) -> bool
     if nanosecond < 0 {
         return false;
     }
-    if nanosecond >= 86_400_000_000_000 {
+    if nanosecond >= DAY_AFTER {
         return false;
     }
     if day < -100_000_000 {
@@ -203,10 +208,10 @@ pub fn is_instant(day: i64, nanosecond: i64) -> bool
 pub fn is_offset(offset: i64) -> bool
     ensures { λ r. ⌜ r ≡ isOffset offset ⌝ }
 {
-    if offset <= -86_400_000_000_000 {
+    if offset <= DAY_BEFORE {
         return false;
     }
-    offset < 86_400_000_000_000
+    offset < DAY_AFTER
 }
 
 // The record of an instant at an offset. Day and nanosecond are raised by a day, so that the sum with the offset is a natural.

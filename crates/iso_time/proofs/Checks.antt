@@ -3,9 +3,11 @@ use Prim.Native.Nat.{ℕ, zero, suc, _-_, _/_, _%_, _≤_, _<_}
 use native.Mathlib.Omega.{arith}
 use mathlib.Core.Path.{_≡_, refl, sym, _∙_}
 use mathlib.Core.Bool.{true, false, cond}
+use mathlib.Core.List.{List, [], _∷_}
 use borrow.Author.Tests.{leb-true, ltb-true, ne-eqb, lt-ltb, le-ltb, le-leb}
-use lib.Dec.{ltb, eqb}
+use lib.Dec.{ltb, eqb, lit<}
 use lib.IntN.{ℤ, pos, negℤ, natAbs, _-ℤ_}
+use lib.ListN.{getD}
 use Rattle.whole.proofs.Laws.{ints, read-add, read-neg}
 use Rattle.whole.proofs.Tests.{both}
 use Rattle.refusal.specs.Answer.{given}
@@ -117,3 +119,61 @@ pub difference-is : (one two : IsoTime) (n m : ℕ) (d : TimeDuration) → isVal
     d ≡ inSeconds (pos m -ℤ pos n) → given d ≡ timeDifference one two
 unfolding timeDifference differenceTime
 difference-is one two n m d v w e f g = rw (v, w, g, e, f)
+
+-- ---- tables by the rank of a unit
+
+pub rank-small : (u : TemporalUnit) → unitRank u < 10
+rank-small U.Year = lit< tt
+rank-small U.Month = lit< tt
+rank-small U.Week = lit< tt
+rank-small U.Day = lit< tt
+rank-small U.Hour = lit< tt
+rank-small U.Minute = lit< tt
+rank-small U.Second = lit< tt
+rank-small U.Millisecond = lit< tt
+rank-small U.Microsecond = lit< tt
+rank-small U.Nanosecond = lit< tt
+
+-- what stands in a table at the rank of a unit
+abbrev pub at-rank : List ℕ → TemporalUnit → ℕ
+at-rank table u = getD table (unitRank u) 0
+
+pub length-at : (u : TemporalUnit) →
+    at-rank (0 ∷ 0 ∷ 0 ∷ 86_400_000_000_000 ∷ 3_600_000_000_000 ∷ 60_000_000_000 ∷ 1_000_000_000 ∷ 1_000_000 ∷ 1000 ∷ 1 ∷ []) u ≡ unitLength u
+unfolding unitLength
+length-at U.Year = refl
+length-at U.Month = refl
+length-at U.Week = refl
+length-at U.Day = refl
+length-at U.Hour = refl
+length-at U.Minute = refl
+length-at U.Second = refl
+length-at U.Millisecond = refl
+length-at U.Microsecond = refl
+length-at U.Nanosecond = refl
+
+pub length-most : (u : TemporalUnit) → unitLength u ≤ 86_400_000_000_000
+unfolding unitLength
+length-most U.Year = omega arith
+length-most U.Month = omega arith
+length-most U.Week = omega arith
+length-most U.Day = omega arith
+length-most U.Hour = omega arith
+length-most U.Minute = omega arith
+length-most U.Second = omega arith
+length-most U.Millisecond = omega arith
+length-most U.Microsecond = omega arith
+length-most U.Nanosecond = omega arith
+
+pub dividend-at : (u : TemporalUnit) → at-rank (0 ∷ 0 ∷ 0 ∷ 0 ∷ 24 ∷ 60 ∷ 60 ∷ 1000 ∷ 1000 ∷ 1000 ∷ []) u ≡ dividend u
+unfolding dividend
+dividend-at U.Year = refl
+dividend-at U.Month = refl
+dividend-at U.Week = refl
+dividend-at U.Day = refl
+dividend-at U.Hour = refl
+dividend-at U.Minute = refl
+dividend-at U.Second = refl
+dividend-at U.Millisecond = refl
+dividend-at U.Microsecond = refl
+dividend-at U.Nanosecond = refl

@@ -20,6 +20,22 @@ const DAYS_BIAS: u64 = 457_625_125_125_125;
 
 const NS_PER_DAY: u64 = 86_400_000_000_000;
 
+// By rank, from year to nanosecond: a unit's length in nanoseconds, and how many of it make the next.
+const LENGTHS: [u64; 10] = [
+    0,
+    0,
+    0,
+    86_400_000_000_000,
+    3_600_000_000_000,
+    60_000_000_000,
+    1_000_000_000,
+    1_000_000,
+    1000,
+    1,
+];
+
+const DIVIDENDS: [u64; 10] = [0, 0, 0, 0, 24, 60, 60, 1000, 1000, 1000];
+
 // A field to be balanced, as a natural.
 fn field_up(x: i64) -> u64
     requires { ⌜ natAbs x ≤ 9007199254740991 ⌝ }
@@ -121,36 +137,16 @@ pub fn quantity_of(unit: Unit, t: IsoTime) -> u64
 pub fn length_of(unit: Unit) -> u64
     ensures { λ r. ⌜ (r ≡ unitLength unit) × (r ≤ nsPerDay) ⌝ }
 {
-    match unit {
-        Unit::Year => 0,
-        Unit::Month => 0,
-        Unit::Week => 0,
-        Unit::Day => NS_PER_DAY,
-        Unit::Hour => 3_600_000_000_000,
-        Unit::Minute => 60_000_000_000,
-        Unit::Second => 1_000_000_000,
-        Unit::Millisecond => 1_000_000,
-        Unit::Microsecond => 1000,
-        Unit::Nanosecond => 1,
-    }
+    let place = unit.rank() as usize;
+    LENGTHS[place]
 }
 
 // How many of a unit make the next; 0 for day and above.
 fn dividend_of(unit: Unit) -> u64
     ensures { λ r. ⌜ r ≡ dividend unit ⌝ }
 {
-    match unit {
-        Unit::Year => 0,
-        Unit::Month => 0,
-        Unit::Week => 0,
-        Unit::Day => 0,
-        Unit::Hour => 24,
-        Unit::Minute => 60,
-        Unit::Second => 60,
-        Unit::Millisecond => 1000,
-        Unit::Microsecond => 1000,
-        Unit::Nanosecond => 1000,
-    }
+    let place = unit.rank() as usize;
+    DIVIDENDS[place]
 }
 
 // Whether an increment is allowed at a unit that a time can be rounded to: 1 for day, a proper divisor of how many make the next for
