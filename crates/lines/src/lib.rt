@@ -1,7 +1,5 @@
-// The text of the line protocol: what the fields of a line are, which of them are numbers, and how an answer is written.
+// The text of the line protocol: what the fields of a line are, and which of them are numbers.
 // Nothing of calendars.
-pub mod inner;
-
 use check::same;
 ghost use mathlib.Core.Path.{_≡_};
 ghost use mathlib.Core.Bool.{cond, _&&_};

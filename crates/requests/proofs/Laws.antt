@@ -6,8 +6,9 @@ use mathlib.Core.Bool.{true, false, cond}
 use mathlib.Core.List.{List, [], _∷_}
 use lib.IntN.{ℤ}
 use lib.ListN.{length, getD, take, drop}
-use Rattle.lines.specs.Text.{fields, newline, answerText, questionText}
-use Rattle.lines.specs.Wrote.{Wrote}
+use Rattle.lines.specs.Text.{fields, newline}
+use Rattle.writing.specs.Text.{answerText, questionText}
+use Rattle.writing.specs.Wrote.{Wrote}
 use Rattle.calls.specs.Names.{callIn, everyCall, isKnown}
 use Rattle.calls.specs.declared.Call.{Call}
 use Rattle.calls.specs.declared.Call.the-variants.{Unknown}

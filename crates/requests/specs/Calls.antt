@@ -5,7 +5,8 @@ use mathlib.Core.List.{List, [], _∷_, _++_}
 use lib.ListN.{getD, drop}
 use lib.IntN.{ℤ, pos}
 use Rattle.refusal.specs.Answer.{Answer, given}
-use Rattle.lines.specs.Text.{fields, newline, answerText, questionText}
+use Rattle.lines.specs.Text.{fields, newline}
+use Rattle.writing.specs.Text.{answerText, questionText}
 use Rattle.calls.specs.Names.{everyCall, callIn, isKnown}
 use Rattle.calls.specs.declared.Call.{Call}
 use Rattle.calls.specs.declared.Call.the-variants as C

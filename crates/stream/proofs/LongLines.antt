@@ -10,7 +10,8 @@ use lib.Dec.{leb}
 use lib.IntN.{ℤ}
 use lib.ListN.{length, getD, drop}
 use Rattle.whole.proofs.Tests.{both}
-use Rattle.lines.specs.Text.{fields, sameBytes, Found, number, none, numberOf, within, questionText}
+use Rattle.lines.specs.Text.{fields, sameBytes, Found, number, none, numberOf, within}
+use Rattle.writing.specs.Text.{questionText}
 use Rattle.lines.proofs.Fields.{same-eq}
 use Rattle.lines.proofs.Lengths.{spread, line-spread, first-spread, number-short}
 use Rattle.calls.specs.Names.{bytes, nameOf, callIn, everyCall, isKnown}

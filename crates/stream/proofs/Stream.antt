@@ -13,8 +13,8 @@ use lib.ListN.{length, take, drop, getD, set, length-append, length-set}
 use lib.Seq.{slice, slice-empty, slice-cons, take-add, take-all, take-suc-set, drop-append-le, drop-at, length-take-le}
 use Rattle.whole.proofs.Laws.{split}
 use Rattle.lines.specs.Text.{newline}
-use Rattle.lines.specs.Wrote.{Wrote}
-use Rattle.lines.proofs.Writing.{after, nothing}
+use Rattle.writing.specs.Wrote.{Wrote}
+use Rattle.writing.proofs.Writing.{after, nothing}
 use Rattle.requests.specs.Calls.{responseTo}
 use Rattle.stream.specs.Stream.{answered, pendingAfter, lastAnswer, outputOf, lineRoom, responseRoom, Holds, Keeps, Inside, Took}
 use Rattle.stream.specs.declared.inner.Progress.{Progress}

@@ -7,7 +7,7 @@ use lib.Dec.{eqb}
 use lib.ListN.{length, take}
 use lib.Seq.{slice}
 use Rattle.lines.specs.Text.{newline}
-use Rattle.lines.specs.Wrote.{Wrote}
+use Rattle.writing.specs.Wrote.{Wrote}
 use Rattle.requests.specs.Calls.{responseTo}
 use Rattle.stream.specs.declared.inner.Progress.{Progress}
 

@@ -4,7 +4,7 @@ ghost use mathlib.Core.Path.{_≡_};
 ghost use mathlib.Core.List.{List};
 ghost use Prim.Native.Nat.{ℕ, _+_, _≤_, _<_};
 ghost use lib.ListN.{length};
-ghost use Rattle.lines.specs.Wrote.{Wrote};
+ghost use Rattle.writing.specs.Wrote.{Wrote};
 ghost use Rattle.requests.specs.Calls.{responseTo};
 ghost use Rattle.stream.specs.Stream.{lastAnswer, responseRoom, Holds, Inside, Took};
 
@@ -94,7 +94,7 @@ fn end_line(line: &[u8], out: &mut [u8], s: Progress) -> usize
     ensures wrote { λ r. ⌜ ((pending : List ℕ) → Holds pending (now (line .entry)) (s .have) (s .over) → Wrote (now (out .entry)) (s .filled) (responseTo pending) (now (out .exit)) r) ⌝ }
 {
     if s.over {
-        return lines::inner::put_question(out, s.filled);
+        return writing::inner::put_question(out, s.filled);
     }
     let have = s.have;
     respond(&line[..have], out, s.filled)

@@ -3,7 +3,7 @@ use borrow.Author.Needs.{needs}
 use native.Mathlib.Omega.{arith}
 use mathlib.Core.Path.{sym}
 use lib.Seq.{length-take-le}
-use Rattle.lines.proofs.Writing.{ends-inside}
+use Rattle.writing.proofs.Writing.{ends-inside}
 use Rattle.readings.proofs.show.Statement.{statement}
 use Rattle.readings.proofs.show.Tie as tie
 

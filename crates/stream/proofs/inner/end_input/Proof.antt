@@ -1,6 +1,6 @@
 -- A pending line is not empty, and is answered as any other; where nothing is pending, nothing is written.
 use borrow.Author.Needs.{needs}
-use Rattle.lines.proofs.Writing.{nothing}
+use Rattle.writing.proofs.Writing.{nothing}
 use Rattle.requests.proofs.Laws.{wrote-as}
 use Rattle.stream.proofs.Stream.{last-long, last-whole, last-none}
 use Rattle.stream.proofs.inner.end_input.Statement.{statement}

@@ -5,7 +5,7 @@ use Prim.Native.Nat.{_≤_}
 use mathlib.Core.Path.{sym, ap}
 use lib.ListN.{length}
 use lib.Seq.{length-take-le}
-use Rattle.lines.proofs.Writing.{ends-inside}
+use Rattle.writing.proofs.Writing.{ends-inside}
 use Rattle.requests.specs.Calls.{responseTo}
 use Rattle.requests.proofs.Laws.{wrote-as}
 use Rattle.stream.proofs.LongLines.{long-lines}

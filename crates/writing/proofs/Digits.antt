@@ -8,8 +8,9 @@ use mathlib.Core.List.{List, [], _∷_, _++_}
 use borrow.Author.Tests.{lt-ltb, le-ltb}
 use lib.ListN.{length, set, length-append}
 use Rattle.whole.proofs.Laws.{split}
-use Rattle.lines.specs.Text.{digits, digitZero}
-use Rattle.lines.proofs.Writing.{placed, placed-none, put-last}
+use Rattle.lines.specs.Text.{digitZero}
+use Rattle.writing.specs.Text.{digits}
+use Rattle.writing.proofs.Writing.{placed, placed-none, put-last}
 
 pub one-digit : (m n : ℕ) → n < 10 → digits (suc m) n ≡ (digitZero + n) ∷ []
 unfolding digits

@@ -5,8 +5,8 @@ ghost use mathlib.Core.Path.{_≡_};
 ghost use mathlib.Core.List.{[], _∷_};
 ghost use Prim.Native.Nat.{_+_, _≤_, _<_};
 ghost use lib.ListN.{length, take};
-ghost use Rattle.lines.specs.Text.{digits, decimal, answerText, questionText};
-ghost use Rattle.lines.specs.Wrote.{Wrote};
+ghost use Rattle.writing.specs.Text.{digits, decimal, answerText, questionText};
+ghost use Rattle.writing.specs.Wrote.{Wrote};
 
 // Writes an answer's line: its number, the first `count` of the values, each after a space, and a newline.
 // 256 bytes hold the longest: 3 for the number, 21 for each of twelve values, and the newline.
@@ -45,15 +45,6 @@ pub fn put_number(out: &mut [u8], at: usize, z: i64) -> usize
         return put_digits(out, next, below(z) + 1);
     }
     put_digits(out, at, above(z))
-}
-
-// Writes a natural in its one shortest form.
-// Twenty bytes hold every u64; 2^64 - 1 takes them all.
-pub fn put_natural(out: &mut [u8], at: usize, n: u64) -> usize
-    requires { ⌜ at + 20 ≤ length (now out) ⌝ }
-    ensures { λ r. ⌜ Wrote (now (out .entry)) at (digits 20 n) (now (out .exit)) r ⌝ }
-{
-    put_digits(out, at, n)
 }
 
 // Writes one byte.

@@ -1,15 +1,15 @@
--- `lines::inner::put_number` meets its contract: `-` and the size of a negative number, which has at most nineteen digits, or the digits alone.
+-- `writing::inner::put_number` meets its contract: `-` and the size of a negative number, which has at most nineteen digits, or the digits alone.
 use borrow.Author.Needs.{needs}
 use Prim.Native.Nat.{_+_}
 use native.Mathlib.Omega.{arith}
 use mathlib.Core.Path.{sym, _∙_}
 use mir.Facts.{toZ-ofZ}
 use Rattle.whole.proofs.Laws.{ints}
-use Rattle.lines.proofs.Digits.{few-digits}
-use Rattle.lines.proofs.Answers.{decimal-plus, decimal-minus}
-use Rattle.lines.proofs.Writing.{after}
-use Rattle.lines.proofs.inner.put_number.Statement.{statement}
-use Rattle.lines.proofs.inner.put_number.Tie as tie
+use Rattle.writing.proofs.Digits.{few-digits}
+use Rattle.writing.proofs.Answers.{decimal-plus, decimal-minus}
+use Rattle.writing.proofs.Writing.{after}
+use Rattle.writing.proofs.inner.put_number.Statement.{statement}
+use Rattle.writing.proofs.inner.put_number.Tie as tie
 
 put-byte-requires : tie.Need-put-byte-requires
 put-byte-requires c κs = search needs

@@ -1,8 +1,8 @@
--- `lines::inner::put_byte` meets its contract: one store.
+-- `writing::inner::put_byte` meets its contract: one store.
 use borrow.Author.Needs.{needs}
-use Rattle.lines.proofs.Writing.{put-one}
-use Rattle.lines.proofs.inner.put_byte.Statement.{statement}
-use Rattle.lines.proofs.inner.put_byte.Tie as tie
+use Rattle.writing.proofs.Writing.{put-one}
+use Rattle.writing.proofs.inner.put_byte.Statement.{statement}
+use Rattle.writing.proofs.inner.put_byte.Tie as tie
 
 slice-write-out : tie.Need-slice-write-out
 slice-write-out c = search needs

@@ -1,12 +1,12 @@
--- `lines::inner::digit_count` meets its contract. While `left` loses its digits, those counted and those left make up the digits of n.
+-- `writing::inner::digit_count` meets its contract. While `left` loses its digits, those counted and those left make up the digits of n.
 use Prim.Native.Nat.{_+_, _≤_}
 use native.Mathlib.Omega.{arith}
 use mathlib.Core.Path.{_≡_}
 use lib.ListN.{length}
-use Rattle.lines.specs.Text.{digits}
-use Rattle.lines.proofs.Digits.{few-digits, count-more, count-one}
-use Rattle.lines.proofs.inner.digit_count.Statement.{statement}
-use Rattle.lines.proofs.inner.digit_count.Tie as tie
+use Rattle.writing.specs.Text.{digits}
+use Rattle.writing.proofs.Digits.{few-digits, count-more, count-one}
+use Rattle.writing.proofs.inner.digit_count.Statement.{statement}
+use Rattle.writing.proofs.inner.digit_count.Tie as tie
 
 abbrev Inv-loop : tie.InvT-loop
 Inv-loop n count₀ left₀ count left = (left ≤ n) × (count + length (digits 20 left) ≡ length (digits 20 n) + 1)

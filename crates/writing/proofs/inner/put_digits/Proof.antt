@@ -1,14 +1,14 @@
--- `lines::inner::put_digits` meets its contract. The buffer with the digits that are left to write in their place is, at each turn, the buffer with all of them.
+-- `writing::inner::put_digits` meets its contract. The buffer with the digits that are left to write in their place is, at each turn, the buffer with all of them.
 use borrow.Author.Needs.{needs}
 use Prim.Native.Nat.{ℕ, _+_, _/_, _≤_}
 use native.Mathlib.Omega.{arith}
 use mathlib.Core.Path.{_≡_, refl, ap, _∙_}
 use lib.ListN.{length, length-set}
-use Rattle.lines.specs.Text.{digits}
-use Rattle.lines.proofs.Digits.{some-digit, count-more, put-digit, put-first}
-use Rattle.lines.proofs.Writing.{placed, placed-wrote}
-use Rattle.lines.proofs.inner.put_digits.Statement.{statement}
-use Rattle.lines.proofs.inner.put_digits.Tie as tie
+use Rattle.writing.specs.Text.{digits}
+use Rattle.writing.proofs.Digits.{some-digit, count-more, put-digit, put-first}
+use Rattle.writing.proofs.Writing.{placed, placed-wrote}
+use Rattle.writing.proofs.inner.put_digits.Statement.{statement}
+use Rattle.writing.proofs.inner.put_digits.Tie as tie
 
 abbrev Inv-loop : tie.InvT-loop
 Inv-loop out₀ at n end left₀ i₀ out left i =

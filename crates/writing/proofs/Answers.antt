@@ -10,8 +10,9 @@ use lib.ListN.{length, take, getD}
 use lib.Seq.{take-suc}
 use mir.Syntax.{w64}
 use mir.Val.{SFits}
-use Rattle.lines.specs.Text.{space, minusSign, newline, digits, decimal, spaced, answerText}
-use Rattle.lines.proofs.Digits.{few-digits}
+use Rattle.lines.specs.Text.{space, minusSign, newline}
+use Rattle.writing.specs.Text.{digits, decimal, spaced, answerText}
+use Rattle.writing.proofs.Digits.{few-digits}
 
 pub decimal-plus : (z : ℤ) (n : ℕ) → z ≡ pos n → decimal z ≡ digits 20 n
 unfolding decimal

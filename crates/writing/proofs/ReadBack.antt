@@ -11,9 +11,10 @@ use lib.IntN.{ℤ, pos, negsuc, negℤ}
 use lib.Signed.{_≤ℤ_, _<ℤ_}
 use lib.ListN.{getD, List·getD-append}
 use Rattle.whole.proofs.Laws.{split, ints}
-use Rattle.lines.specs.Text.{number, digitZero, minusSign, isDigit, allDigits, valueFrom, naturalOf, numberOf, digits, decimal}
-use Rattle.lines.proofs.Digits.{one-digit, more-digits, some-digit, count-one, count-more}
+use Rattle.lines.specs.Text.{number, digitZero, minusSign, isDigit, allDigits, valueFrom, naturalOf, numberOf}
+use Rattle.writing.specs.Text.{digits, decimal}
+use Rattle.writing.proofs.Digits.{one-digit, more-digits, some-digit, count-one, count-more}
 use Rattle.lines.proofs.Numbers.{readFrom, natural-one, natural-more, number-plain, number-minus, negative-some}
 
 -- the digits of a number are digits
 

@@ -7,7 +7,7 @@ use mathlib.Core.Path.{_≡_, refl, sym, ap, _∙_}
 use mathlib.Core.List.{List, [], _∷_, _++_, append-assoc, append-nil}
 use lib.ListN.{length, take, drop, set, length-append, length-take, length-drop, length-set, take-append-drop}
 use lib.Seq.{take-set-le, drop-set-lt, drop-cons, getD-set-same, take-at, length-take-le}
-use Rattle.lines.specs.Wrote.{Wrote}
+use Rattle.writing.specs.Wrote.{Wrote}
 
 -- the buffer with a text at its place
 abbrev pub placed : List ℕ → ℕ → List ℕ → List ℕ

@@ -1,8 +1,8 @@
--- `lines::inner::put_question` meets its contract: two bytes, one after the other.
+-- `writing::inner::put_question` meets its contract: two bytes, one after the other.
 use borrow.Author.Needs.{needs}
-use Rattle.lines.proofs.Writing.{after}
-use Rattle.lines.proofs.inner.put_question.Statement.{statement}
-use Rattle.lines.proofs.inner.put_question.Tie as tie
+use Rattle.writing.proofs.Writing.{after}
+use Rattle.writing.proofs.inner.put_question.Statement.{statement}
+use Rattle.writing.proofs.inner.put_question.Tie as tie
 
 put-byte-requires : tie.Need-put-byte-requires
 put-byte-requires c κs = search needs

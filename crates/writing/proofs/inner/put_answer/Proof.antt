@@ -1,4 +1,4 @@
--- `lines::inner::put_answer` meets its contract. At each turn the values so far stand after the answer's number, at most 21 bytes each.
+-- `writing::inner::put_answer` meets its contract. At each turn the values so far stand after the answer's number, at most 21 bytes each.
 use borrow.Author.Needs.{needs}
 use Prim.Native.Nat.{_+_, _-_, _*_, _≤_}
 use native.Mathlib.Omega.{arith}
@@ -8,13 +8,13 @@ use mir.Facts.{toZ-ofZ}
 use mir.Syntax.{w64}
 use mir.Val.{SFits}
 use lib.ListN.{length, take, getD}
-use Rattle.lines.specs.Text.{spaced}
-use Rattle.lines.specs.Wrote.{Wrote}
-use Rattle.lines.proofs.Digits.{few-digits}
-use Rattle.lines.proofs.Answers.{decimal-short, spaced-more, answer-is}
-use Rattle.lines.proofs.Writing.{nothing, after}
-use Rattle.lines.proofs.inner.put_answer.Statement.{statement}
-use Rattle.lines.proofs.inner.put_answer.Tie as tie
+use Rattle.writing.specs.Text.{spaced}
+use Rattle.writing.specs.Wrote.{Wrote}
+use Rattle.writing.proofs.Digits.{few-digits}
+use Rattle.writing.proofs.Answers.{decimal-short, spaced-more, answer-is}
+use Rattle.writing.proofs.Writing.{nothing, after}
+use Rattle.writing.proofs.inner.put_answer.Statement.{statement}
+use Rattle.writing.proofs.inner.put_answer.Tie as tie
 
 abbrev Inv-loop : tie.InvT-loop
 Inv-loop out₀ at number count values next₀ k₀ out next k = (k ≤ count) × ((next ≤ next₀ + 21 * k) × Wrote out₀ next₀ (spaced (take k values)) out next)

@@ -1,0 +1,4 @@
+pub mod Writing
+pub mod Digits
+pub mod Answers
+pub mod ReadBack

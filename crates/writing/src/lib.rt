@@ -1,0 +1,2 @@
+// Answers written into a lent buffer.
+pub mod inner;
