@@ -8,12 +8,13 @@ use lib.Dec.{leb}
 use lib.ListN.{getD}
 use lib.IntN.{ℤ, pos, negℤ, natAbs, _+ℤ_, _-ℤ_, _*ℤ_}
 use lib.Signed.{ltZ, leZ, _≤ℤ_, _<ℤ_}
+use Rattle.options.specs.Units.{nsPerDay}
 use Rattle.refusal.specs.Answer.{given, refused, check}
 use Rattle.refusal.proofs.Answers.{given-inj, never}
 use Rattle.whole.specs.Whole.{_⊖_, fmod, clampZ}
 use Rattle.whole.proofs.Laws.{whole, ints, ⊖-same, size-of, range-of, read-add, read-diff, read-times}
 use Rattle.whole.proofs.Tests.{alike, both, and-false}
-use Rattle.iso_date.specs.Proposal.{date, leapYear, monthLengths, isoDaysInMonth, dayFromMonth, isoDateToEpochDays, epochDays, epochDaysToISODate, isValidISODate, balancedYear, constrainISODate, clampTo, nsWithinLimits, momentWithinLimits, isoDateWithinLimits, noon, nsPerDay, nsLimit}
+use Rattle.iso_date.specs.Proposal.{date, leapYear, monthLengths, isoDaysInMonth, dayFromMonth, isoDateToEpochDays, epochDays, epochDaysToISODate, isValidISODate, balancedYear, constrainISODate, clampTo, nsWithinLimits, momentWithinLimits, isoDateWithinLimits, noon, nsLimit}
 use Rattle.iso_date.specs.Paper.{monthLength, balanced, yearMonth, balanceYearMonth, dateToDay, dayToDate, regulateDate, makeDate, dateLimits, balanceDate}
 use Rattle.iso_date.specs.Inner.{yearBias, monthBias, dayBias, Balances}
 use Rattle.iso_date.specs.declared.IsoDate.{IsoDate}

@@ -7,6 +7,7 @@ use lib.Dec.{leb, ltb, eqb}
 use lib.ListN.{getD, take}
 use lib.IntN.{ℤ, pos, negℤ, natAbs, _+ℤ_, _-ℤ_, _*ℤ_}
 use lib.Signed.{ltZ, leZ}
+use Rattle.options.specs.Units.{nsPerDay}
 use Rattle.whole.specs.Whole.{fdiv, fmod}
 use Rattle.iso_date.specs.declared.IsoDate.{IsoDate}
 
@@ -105,9 +106,6 @@ constrainISODate d =
     date (d .year) (clampTo 12 (d .month)) (clampTo (isoDaysInMonth (d .year) (clampTo 12 (d .month))) (d .day))
 
 -- ---- Limits
-
-abbrev pub nsPerDay : ℕ
-nsPerDay = 86_400_000_000_000
 
 abbrev pub noon : ℕ
 noon = 43_200_000_000_000

@@ -11,7 +11,7 @@ use Rattle.refusal.specs.Answer.{Answer, given, refused, numberOf}
 use Rattle.whole.specs.Whole.{_⊖_}
 use Rattle.whole.proofs.Laws.{ints, read-add, read-neg, read-diff}
 use Rattle.whole.proofs.Tests.{both}
-use Rattle.iso_date.specs.Proposal.{epochDays, epochDaysToISODate, isValidISODate, nsPerDay}
+use Rattle.iso_date.specs.Proposal.{epochDays, epochDaysToISODate, isValidISODate}
 use Rattle.iso_date.specs.Inner.{dayBias}
 use Rattle.iso_date.specs.declared.IsoDate.{IsoDate}
 use Rattle.iso_date.proofs.Answers.{limits-days}
@@ -22,7 +22,7 @@ use Rattle.iso_time.proofs.Times.{read-valid, below-day}
 use Rattle.date_duration.specs.Proposal.{duration}
 use Rattle.date_duration.specs.declared.DateDuration.{DateDuration}
 use Rattle.options.specs.declared.Unit.{Unit as TemporalUnit}
-use Rattle.options.specs.Units.{unitRank}
+use Rattle.options.specs.Units.{unitRank, nsPerDay}
 use Rattle.date_math.specs.Proposal.{directed, calendarDateUntil}
 use Rattle.date_math.specs.Inner.{apart}
 use Rattle.date_math.proofs.Places.{directed-times, directed-add}

@@ -7,12 +7,13 @@ use mathlib.Core.Bool.{true, false}
 use borrow.Author.Tests.{ltb-true, lt-ltb, le-ltb}
 use lib.IntN.{ℤ, pos, negsuc, negℤ, natAbs, _+ℤ_, _-ℤ_, _*ℤ_}
 use lib.Signed.{ltZ, leZ, _≤ℤ_, _<ℤ_}
+use Rattle.options.specs.Units.{nsPerDay}
 use Rattle.whole.specs.Whole.{_⊖_}
 use Rattle.whole.proofs.Laws.{parts, whole, ints, size-of, range-of, read-add, read-diff, read-times}
 use Rattle.whole.proofs.Edges.{nat-of, raise-room}
 use Rattle.whole.proofs.Tests.{alike, both}
 use Rattle.refusal.specs.Answer.{given, refused}
-use Rattle.iso_date.specs.Proposal.{epochDays, epochDaysToISODate, isoDateToEpochDays, dayFromMonth, isValidISODate, nsPerDay, nsLimit}
+use Rattle.iso_date.specs.Proposal.{epochDays, epochDaysToISODate, isoDateToEpochDays, dayFromMonth, isValidISODate, nsLimit}
 use Rattle.iso_date.specs.Inner.{dayBias}
 use Rattle.iso_date.specs.declared.IsoDate.{IsoDate}
 use Rattle.iso_date.proofs.Answers.{limits-in}

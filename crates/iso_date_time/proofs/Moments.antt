@@ -8,11 +8,12 @@ use borrow.Author.Tests.{ltb-true, ltb-false}
 use lib.Dec.{ltb}
 use lib.IntN.{ℤ, pos, negℤ, natAbs, _+ℤ_, _-ℤ_, _*ℤ_}
 use lib.Signed.{ltZ, _≤ℤ_, _<ℤ_}
+use Rattle.options.specs.Units.{nsPerDay}
 use Rattle.refusal.specs.Answer.{Answer, given, refused, check}
 use Rattle.refusal.proofs.Answers.{given-inj, never}
 use Rattle.whole.proofs.Tests.{alike}
 use Rattle.whole.proofs.Laws.{ints, size-of, range-of, read-add, read-times}
-use Rattle.iso_date.specs.Proposal.{epochDaysToISODate, isoDateToEpochDays, isValidISODate, nsWithinLimits, momentWithinLimits, nsPerDay, nsLimit}
+use Rattle.iso_date.specs.Proposal.{epochDaysToISODate, isoDateToEpochDays, isValidISODate, nsWithinLimits, momentWithinLimits, nsLimit}
 use Rattle.iso_date.specs.Paper.{balanced, balanceDate, dayToDate}
 use Rattle.iso_date.specs.declared.IsoDate.{IsoDate}
 use Rattle.iso_date.proofs.Answers.{limits-in}

@@ -13,7 +13,7 @@ use Rattle.refusal.proofs.Answers.{given-inj, never}
 use Rattle.whole.specs.Whole.{_⊖_}
 use Rattle.whole.proofs.Laws.{whole, ints, parts, split, read-add, read-neg, read-diff}
 use Rattle.whole.proofs.Edges.{raised-is}
-use Rattle.iso_date.specs.Proposal.{epochDays, epochDaysToISODate, isValidISODate, nsPerDay}
+use Rattle.iso_date.specs.Proposal.{epochDays, epochDaysToISODate, isValidISODate}
 use Rattle.iso_date.specs.Inner.{dayBias}
 use Rattle.iso_date.proofs.Dates.{back-valid, back-and-there}
 use Rattle.iso_time.specs.Proposal.{nanoseconds, inSeconds, isValidTime, validIncrement, roundTime}
@@ -26,7 +26,7 @@ use Rattle.date_duration.specs.Proposal.{duration}
 use Rattle.date_duration.specs.declared.DateDuration.{DateDuration}
 use Rattle.options.specs.declared.Unit.{Unit as TemporalUnit}
 use Rattle.options.specs.declared.Unit.the-variants as U
-use Rattle.options.specs.Units.{unitRank}
+use Rattle.options.specs.Units.{unitRank, nsPerDay}
 use Rattle.date_math.specs.Proposal.{directed}
 use Rattle.date_math.specs.Claims.{Ahead}
 use Rattle.date_math.specs.Inner.{apart}

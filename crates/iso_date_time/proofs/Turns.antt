@@ -8,6 +8,7 @@ use borrow.Author.Tests.{ltb-true, ltb-false, lt-ltb, le-ltb, le-leb, leb-true, 
 use lib.Dec.{ltb, leb}
 use lib.IntN.{ℤ, pos, negℤ, natAbs, _+ℤ_, _-ℤ_, _*ℤ_}
 use lib.Signed.{ltZ}
+use Rattle.options.specs.Units.{nsPerDay}
 use Rattle.whole.specs.Whole.{_⊖_}
 use Rattle.whole.proofs.Laws.{up, dn, ints, read-add, read-neg, read-times, read-diff, fdiv-unique}
 use Rattle.whole.proofs.Tests.{alike, and-false}
@@ -16,7 +17,6 @@ use Rattle.iso_date.specs.Inner.{dayBias}
 use Rattle.iso_date.specs.declared.IsoDate.{IsoDate}
 use Rattle.iso_date.proofs.Dates.{read-valid, back-valid}
 use Rattle.iso_time.specs.Proposal.{nanoseconds, inSeconds}
-use Rattle.iso_time.specs.Inner.{nsPerDay}
 use Rattle.iso_time.proofs.Checks.{duration as span, cut-below}
 use Rattle.date_duration.specs.Proposal.{duration}
 use Rattle.options.specs.declared.Unit.{Unit as TemporalUnit}

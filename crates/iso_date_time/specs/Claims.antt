@@ -2,7 +2,7 @@
 -- the calls.
 use mathlib.Core.Bool.{Bool}
 use lib.IntN.{ℤ, pos, _+ℤ_, _*ℤ_}
-use Rattle.iso_date.specs.Proposal.{nsPerDay}
+use Rattle.options.specs.Units.{nsPerDay}
 use Rattle.iso_time.specs.Claims.{nanosecondsOf, Along}
 use Rattle.iso_date_time.specs.declared.InternalDurationRecord.{InternalDurationRecord}
 

@@ -5,7 +5,7 @@ use mathlib.Core.Bool.{Bool, true, cond, _&&_}
 use lib.Dec.{leb}
 use lib.IntN.{ℤ, pos, negℤ, _+ℤ_, _-ℤ_, _*ℤ_}
 use lib.Signed.{ltZ}
-use Rattle.iso_time.specs.Inner.{nsPerDay}
+use Rattle.options.specs.Units.{nsPerDay}
 use Rattle.date_math.specs.Proposal.{directed}
 use Rattle.iso_date_time.specs.Proposal.{signOf, opposed}
 

@@ -5,8 +5,9 @@ use mathlib.Core.Bool.{Bool, _&&_}
 use lib.Dec.{ltb}
 use lib.IntN.{ℤ, pos, negℤ, natAbs, _+ℤ_, _-ℤ_, _*ℤ_}
 use lib.Signed.{leZ, ltZ}
+use Rattle.options.specs.Units.{nsPerDay}
 use Rattle.refusal.specs.Answer.{Answer, given, refused, check, andThen}
-use Rattle.iso_date.specs.Proposal.{isoDateToEpochDays, isValidISODate, nsPerDay}
+use Rattle.iso_date.specs.Proposal.{isoDateToEpochDays, isValidISODate}
 use Rattle.iso_date.specs.Paper.{balanced}
 use Rattle.iso_time.specs.Proposal.{isValidTime, balanceTime, validIncrement}
 use Rattle.iso_time.specs.Paper.{allBounded, isRoundingUnit}

@@ -5,7 +5,7 @@ use mathlib.Core.Bool.{Bool, true, false, cond, _&&_, _||_}
 use lib.Dec.{leb}
 use lib.IntN.{ℤ, pos, negℤ, _+ℤ_, _-ℤ_, _*ℤ_}
 use lib.Signed.{ltZ}
-use Rattle.iso_date.specs.Proposal.{epochDays, epochDaysToISODate, isoDateToEpochDays, momentWithinLimits, nsPerDay}
+use Rattle.iso_date.specs.Proposal.{epochDays, epochDaysToISODate, isoDateToEpochDays, momentWithinLimits}
 use Rattle.iso_date.specs.declared.IsoDate.{IsoDate}
 use Rattle.iso_time.specs.Proposal.{balanceTime, nanoseconds, nanosecondsUntil, inSeconds, roundTime}
 use Rattle.iso_time.specs.declared.IsoTime.{IsoTime}
@@ -16,7 +16,7 @@ use Rattle.date_duration.specs.declared.DateDuration.{DateDuration}
 use Rattle.date_math.specs.Proposal.{addDaysToISODate, isLater, calendarDateUntil}
 use Rattle.options.specs.declared.Unit.{Unit as TemporalUnit}
 use Rattle.options.specs.declared.Unit.the-variants as U
-use Rattle.options.specs.Units.{unitRank}
+use Rattle.options.specs.Units.{unitRank, nsPerDay}
 use Rattle.iso_date_time.specs.declared.IsoDateTime.{IsoDateTime}
 use Rattle.iso_date_time.specs.declared.InternalDurationRecord.{InternalDurationRecord}
 

@@ -7,6 +7,7 @@ use mathlib.Core.Bool.{Bool, true, false, cond}
 use lib.Dec.{eqb}
 use borrow.Author.Tests.{eqb-true, leb-true, ltb-true}
 use lib.IntN.{pos}
+use Rattle.options.specs.Units.{nsPerDay}
 use Rattle.whole.specs.Whole.{fdiv}
 use Rattle.whole.proofs.Tests.{both}
 use Rattle.options.specs.declared.Unit.{Unit as TemporalUnit}
@@ -17,7 +18,7 @@ use Rattle.rounding.specs.declared.RoundingMode.{RoundingMode}
 use Rattle.rounding.specs.declared.UnsignedRoundingMode.{UnsignedRoundingMode}
 use Rattle.rounding.proofs.Rounds.{number-above, rounded-multiple}
 use Rattle.iso_time.specs.Proposal.{time, nanoseconds, quantity, unitLength, roundedUnits, withUnits, roundTime, validateTemporalRoundingIncrement, validIncrement}
-use Rattle.iso_time.specs.Inner.{nsPerDay, Carried, dividend}
+use Rattle.iso_time.specs.Inner.{Carried, dividend}
 use Rattle.iso_time.specs.Claims.{exact}
 use Rattle.iso_time.specs.declared.IsoTime.{IsoTime}
 use Rattle.iso_time.specs.declared.BalancedTime.{BalancedTime}

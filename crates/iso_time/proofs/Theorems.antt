@@ -6,6 +6,7 @@ use mathlib.Core.Path.{_≡_, sym, _∙_, ap}
 use mathlib.Core.Bool.{true, false}
 use lib.IntN.{ℤ, pos, negsuc, negℤ, _+ℤ_, _*ℤ_, +ℤ-comm, -ℤ-+ℤ-cancel}
 use lib.Signed.{quotZ, remZ, _≤ℤ_}
+use Rattle.options.specs.Units.{nsPerDay}
 use Rattle.whole.proofs.Laws.{whole, ints, size-of, range-of, read-add, read-neg, read-times}
 use Rattle.options.specs.declared.Unit.{Unit as TemporalUnit}
 use Rattle.rounding.specs.Proposal.{getUnsignedRoundingMode}
@@ -14,7 +15,6 @@ use Rattle.rounding.specs.declared.RoundingMode.{RoundingMode}
 use Rattle.rounding.proofs.Rounds.{rounded-multiple, rounded-near}
 use Rattle.iso_time.specs.Proposal.{isValidTime, balanceTime, nanoseconds, nanosecondsUntil, inSeconds, differenceTime, quantity, unitLength, roundTime, validIncrement}
 use Rattle.iso_time.specs.Paper.{isRoundingUnit}
-use Rattle.iso_time.specs.Inner.{nsPerDay}
 use Rattle.iso_time.specs.Claims.{exact, flat, nanosecondsOf, Parts, Near}
 use Rattle.iso_time.specs.declared.IsoTime.{IsoTime}
 use Rattle.iso_time.specs.declared.BalancedTime.{BalancedTime}

@@ -6,11 +6,12 @@ use mathlib.Core.Path.{_≡_, refl, sym, _∙_, ap, ap₂}
 use mathlib.Core.Bool.{true}
 use borrow.Author.Tests.{leb-true, le-leb}
 use lib.IntN.{ℤ, pos, negℤ, _+ℤ_, _-ℤ_, _*ℤ_}
+use Rattle.options.specs.Units.{nsPerDay}
 use Rattle.whole.specs.Whole.{_⊖_, fdiv, fmod}
 use Rattle.whole.proofs.Laws.{parts, whole, ints, ⊖-sum, fdiv-fmod, fdiv-unique, fmod-lt, quotient, of-pos, read-add, read-neg}
 use Rattle.whole.proofs.Tests.{both}
 use Rattle.iso_time.specs.Proposal.{time, isValidTime, balanced, balanceTime, nanoseconds}
-use Rattle.iso_time.specs.Inner.{fieldBias, nsPerDay}
+use Rattle.iso_time.specs.Inner.{fieldBias}
 use Rattle.iso_time.specs.Claims.{exact, flat}
 use Rattle.iso_time.specs.declared.IsoTime.{IsoTime}
 use Rattle.iso_time.specs.declared.BalancedTime.{BalancedTime}

@@ -4,9 +4,9 @@ use mathlib.Core.Path.{_≡_}
 use mathlib.Core.Bool.{Bool, true, false}
 use lib.IntN.{ℤ, pos, natAbs, _+ℤ_, _*ℤ_}
 use lib.Signed.{_≤ℤ_}
+use Rattle.options.specs.Units.{nsPerDay}
 use Rattle.options.specs.declared.Unit.{Unit as TemporalUnit}
 use Rattle.iso_time.specs.Proposal.{nanoseconds, quantity}
-use Rattle.iso_time.specs.Inner.{nsPerDay}
 use Rattle.iso_time.specs.declared.IsoTime.{IsoTime}
 use Rattle.iso_time.specs.declared.BalancedTime.{BalancedTime}
 use Rattle.iso_time.specs.declared.TimeDuration.{TimeDuration}

@@ -3,6 +3,7 @@ use Prim.Native.Nat.{ℕ}
 use mathlib.Core.Path.{_≡_}
 use mathlib.Core.Bool.{true}
 use lib.IntN.{pos, _+ℤ_, _*ℤ_}
+use Rattle.options.specs.Units.{nsPerDay}
 use Rattle.options.specs.declared.Unit.{Unit as TemporalUnit}
 use Rattle.options.specs.declared.Unit.the-variants as U
 use Rattle.iso_time.specs.Proposal.{nanoseconds, isValidTime}
@@ -11,9 +12,6 @@ use Rattle.iso_time.specs.declared.BalancedTime.{BalancedTime}
 -- what a field to be balanced is raised by: more than its bound, and divided by every divisor on the way up
 abbrev pub fieldBias : ℕ
 fieldBias = 10_800_000_000_000_000
-
-abbrev pub nsPerDay : ℕ
-nsPerDay = 86_400_000_000_000
 
 -- days and a valid time that make n nanoseconds
 pub record Carried (n : ℕ) (b : BalancedTime) : Type 0 where

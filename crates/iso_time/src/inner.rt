@@ -9,9 +9,9 @@ ghost use mathlib.Core.Bool.{true};
 ghost use Prim.Native.Nat.{_+_, _*_, _≤_, _<_};
 ghost use lib.IntN.{natAbs, pos, _-ℤ_};
 ghost use Rattle.whole.specs.Whole.{_⊖_};
-ghost use Rattle.options.specs.Units.{unitRank};
+ghost use Rattle.options.specs.Units.{unitRank, nsPerDay};
 ghost use Rattle.iso_time.specs.Proposal.{isValidTime, balanceTime, nsFromMillisecond, nanoseconds, quantity, unitLength, validIncrement, roundTime, inSeconds};
-ghost use Rattle.iso_time.specs.Inner.{fieldBias, nsPerDay, Carried, dividend};
+ghost use Rattle.iso_time.specs.Inner.{fieldBias, Carried, dividend};
 
 // More than the bound of a field to be balanced, and divided by each of 1000, 60 and 24 as often as the carry meets them.
 const FIELD_BIAS: u64 = 10_800_000_000_000_000;

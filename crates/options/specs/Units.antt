@@ -1,4 +1,4 @@
--- The order of the units.
+-- The order of the units, and the length of a day.
 use Prim.Native.Nat.{ℕ}
 use Rattle.options.specs.declared.Unit.{Unit as Unit′}
 use Rattle.options.specs.declared.Unit.the-variants as U
@@ -15,3 +15,7 @@ unitRank U.Second = 6
 unitRank U.Millisecond = 7
 unitRank U.Microsecond = 8
 unitRank U.Nanosecond = 9
+
+-- the nanoseconds of a day
+abbrev pub nsPerDay : ℕ
+nsPerDay = 86_400_000_000_000

@@ -3,9 +3,9 @@ use borrow.Author.Needs.{needs}
 use mathlib.Core.Path.{_≡_, sym, _∙_}
 use mir.Facts.{toZ-ofZ}
 use lib.IntN.{pos}
+use Rattle.options.specs.Units.{nsPerDay}
 use Rattle.whole.specs.Whole.{_⊖_}
 use Rattle.iso_date.specs.Inner.{dayBias}
-use Rattle.iso_time.specs.Inner.{nsPerDay}
 use Rattle.iso_date_time.proofs.Instants.{read-instant, offset-room, day-room, sum-bounds, instant-is}
 use Rattle.iso_date_time.proofs.inner.from_instant.Statement.{statement}
 use Rattle.iso_date_time.proofs.inner.from_instant.Tie as tie
