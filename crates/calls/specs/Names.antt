@@ -50,6 +50,10 @@ abbrev pub bytes : String → List ℕ
 bytes Text.[] = []
 bytes (Text._∷_ c cs) = code c ∷ bytes cs
 
+abbrev pub namesOf : List Call → List (List ℕ)
+namesOf [] = []
+namesOf (c ∷ cs) = bytes (nameOf c) ∷ namesOf cs
+
 -- the first call of a list that has the name
 unfoldable pub callIn : List Call → List ℕ → Call
 callIn [] name = C.Unknown

@@ -1,7 +1,10 @@
 // The calls that a request can name, and their names.
 use lines::place_of;
 ghost use mathlib.Core.Path.{_≡_};
-ghost use Rattle.calls.specs.Names.{callIn, everyCall};
+ghost use lib.ListN.{getD};
+ghost use Rattle.lines.specs.Text.{placeIn};
+ghost use Rattle.calls.specs.Names.{everyCall, namesOf};
+ghost use Rattle.calls.specs.declared.Call.the-variants.{Unknown};
 
 // The calls that a request can name, in the order of the protocol's table.
 pub enum Call {
@@ -34,8 +37,8 @@ pub enum Call {
     Unknown,
 }
 
-// The calls in the order of their names below, and then what is no call.
-const CALLS: [Call; 27] = [
+// The calls in the order of their names below.
+const CALLS: [Call; 26] = [
     Call::MonthLength,
     Call::DateToDay,
     Call::DayToDate,
@@ -62,14 +65,13 @@ const CALLS: [Call; 27] = [
     Call::RoundDateTime,
     Call::DateTimeDifference,
     Call::DateTimeFromInstant,
-    Call::Unknown,
 ];
 
-// The call that a name is, or none.
-pub fn call_named(name: &[u8]) -> Call
-    ensures { λ r. ⌜ r ≡ callIn everyCall (now (name .entry)) ⌝ }
+// The place of a name among those of the calls, counted from 0; as many as there are calls, where it is none of them.
+pub fn place_named(name: &[u8]) -> usize
+    ensures { λ r. ⌜ r ≡ placeIn (namesOf everyCall) (now (name .entry)) ⌝ }
 {
-    let place = place_of(
+    place_of(
         b"month_length date_to_day day_to_date balance_year_month regulate_date \
       make_date date_limits balance_date regulate_time balance_time \
       time_difference round_number round_number_as_if_positive round_time duration_new \
@@ -77,6 +79,16 @@ pub fn call_named(name: &[u8]) -> Call
       date_difference datetime_limits balance_datetime round_datetime datetime_difference \
       datetime_from_instant",
         name,
-    );
-    CALLS[place]
+    )
+}
+
+// The call at a place of the table, or none past its end.
+pub fn call_at(place: usize) -> Call
+    ensures { λ r. ⌜ r ≡ getD everyCall place Unknown ⌝ }
+{
+    if place < 26 {
+        CALLS[place]
+    } else {
+        Call::Unknown
+    }
 }

@@ -162,21 +162,20 @@ are-those (k ∷ ks) [] zs e = let n : _≡_ {A = ℕ} 0 1 = cc in let f : ⊥ =
 are-those (k ∷ ks) (f ∷ fs) zs e =
     are-also k ks (within (k .low) (k .high) (numberOf f)) (arguments ks fs) zs (λ z p. within-range (k .low) (k .high) z (numberOf f) p) (are-those ks fs) e
 
-are-left : (ks ls : List Kind) (zs : List ℤ) → Are (ks ++ ls) zs → Are ks zs
+-- the first of the types, and those after them
+are-first : (m : ℕ) (ks : List Kind) (zs : List ℤ) → Are ks zs → Are (take m ks) zs
 unfolding Are
-are-left [] ls zs h = tt
-are-left (k ∷ ks) ls [] h = h
-are-left (k ∷ ks) ls (z ∷ zs) h = (h .0, are-left ks ls zs (h .1))
+are-first zero ks zs h = tt
+are-first (suc m) [] zs h = tt
+are-first (suc m) (k ∷ ks) [] h = h
+are-first (suc m) (k ∷ ks) (z ∷ zs) h = (h .0, are-first m ks zs (h .1))
 
--- the numbers after those of the first types
-after : (ks ls : List Kind) (zs : List ℤ) → Are (ks ++ ls) zs → Are ls (drop (length ks) zs)
+are-after : (j : ℕ) (ks : List Kind) (zs : List ℤ) → Are ks zs → Are (drop j ks) (drop j zs)
 unfolding Are
-after [] ls zs h = h
-after (k ∷ ks) ls [] h = absurd h
-after (k ∷ ks) ls (z ∷ zs) h = after ks ls zs (h .1)
-
-are-right : (ks ls : List Kind) (zs : List ℤ) (i : ℕ) → Are (ks ++ ls) (drop i zs) → Are ls (drop (i + length ks) zs)
-are-right ks ls zs i h = subst (Are ls) (drop-drop (length ks) i zs) (after ks ls (drop i zs) h)
+are-after zero ks zs h = h
+are-after (suc j) [] zs h = tt
+are-after (suc j) (k ∷ ks) [] h = absurd h
+are-after (suc j) (k ∷ ks) (z ∷ zs) h = are-after j ks zs (h .1)
 
 -- the number at a place
 are-here : (k : Kind) (ks : List Kind) (z : ℤ) (zs : List ℤ) → Are (k ∷ ks) (z ∷ zs) → (k .low ≤ℤ z) × (z ≤ℤ k .high)
@@ -232,15 +231,15 @@ pub holds-all : (ks : List Kind) (fs : List (List ℕ)) (n : Numbers) → Reads 
 unfolding numbersIn
 holds-all ks fs n r k = record { are = are-those ks fs (numbersIn n) (sym (rw k at (r .reads-as))); room = r .count-fits }
 
-pub holds-left : (ks ls : List Kind) (n : Numbers) (i : ℕ) → Holds (ks ++ ls) n i → Holds ks n i
-holds-left ks ls n i h = record { are = are-left ks ls (drop i (numbersIn n)) (h .are); room = h .room }
+-- the first m of them
+pub holds-first : (m : ℕ) {ks : List Kind} {n : Numbers} {i : ℕ} → Holds ks n i → Holds (take m ks) n i
+holds-first m {ks} {n} {i} h = record { are = are-first m ks (drop i (numbersIn n)) (h .are); room = h .room }
 
-pub holds-right : (ks ls : List Kind) (n : Numbers) (i : ℕ) → Holds (ks ++ ls) n i → Holds ls n (i + length ks)
-holds-right ks ls n i h = record { are = are-right ks ls (numbersIn n) i (h .are); room = h .room }
-
--- a group with others before and after it
-pub holds-part : (ks ms ls : List Kind) (n : Numbers) (i : ℕ) → Holds (ks ++ (ms ++ ls)) n i → Holds ms n (i + length ks)
-holds-part ks ms ls n i h = holds-left ms ls n (i + length ks) (holds-right ks (ms ++ ls) n i h)
+-- m of them, after the first j
+pub holds-from : (j m : ℕ) {ks : List Kind} {n : Numbers} {i : ℕ} → Holds ks n i → Holds (take m (drop j ks)) n (i + j)
+holds-from j m {ks} {n} {i} h =
+    holds-first m
+    (record { are = subst (Are (drop j ks)) (drop-drop j i (numbersIn n)) (are-after j ks (drop i (numbersIn n)) (h .are)); room = h .room })
 
 -- a number of a type is one of any wider type
 are-wider : (j k : Kind) (zs : List ℤ) → leZ (k .low) (j .low) ≡ true → leZ (j .high) (k .high) ≡ true → Are (j ∷ []) zs → Are (k ∷ []) zs

@@ -2,7 +2,7 @@
 ghost use Prim.Native.Nat.{_+_, _≤_};
 ghost use lib.ListN.{length};
 ghost use Rattle.writing.specs.Wrote.{Wrote};
-ghost use Rattle.requests.specs.Calls.{responseTo};
+ghost use Rattle.requests.specs.Requests.{responseTo};
 
 // Writes the response from `at` on and returns the place after it. 256 bytes hold the longest.
 pub fn respond(line: &[u8], out: &mut [u8], at: usize) -> usize

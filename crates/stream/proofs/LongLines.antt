@@ -19,7 +19,8 @@ use Rattle.calls.specs.declared.Call.{Call}
 use Rattle.numbers.specs.Kinds.{Kind, Arguments, these, noArguments, also, arguments}
 use Rattle.numbers.proofs.Laws.{also-none}
 use Rattle.replies.specs.Replies.{question}
-use Rattle.requests.specs.Calls.{kindsOf, meaningOf, replyOf, replyTo, replyWith, replyText, responseTo}
+use Rattle.evaluators.specs.Calls.{kindsOf, meaningOf}
+use Rattle.requests.specs.Requests.{replyOf, replyTo, replyWith, replyText, responseTo}
 use Rattle.stream.specs.Stream.{lineRoom}
 
 -- ---- a request has few numbers

@@ -15,7 +15,7 @@ use Rattle.whole.proofs.Laws.{split}
 use Rattle.lines.specs.Text.{newline}
 use Rattle.writing.specs.Wrote.{Wrote}
 use Rattle.writing.proofs.Writing.{after, nothing}
-use Rattle.requests.specs.Calls.{responseTo}
+use Rattle.requests.specs.Requests.{responseTo}
 use Rattle.stream.specs.Stream.{answered, pendingAfter, lastAnswer, outputOf, lineRoom, responseRoom, Holds, Keeps, Inside, Took}
 use Rattle.stream.specs.declared.inner.Progress.{Progress}
 

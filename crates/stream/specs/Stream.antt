@@ -8,7 +8,7 @@ use lib.ListN.{length, take}
 use lib.Seq.{slice}
 use Rattle.lines.specs.Text.{newline}
 use Rattle.writing.specs.Wrote.{Wrote}
-use Rattle.requests.specs.Calls.{responseTo}
+use Rattle.requests.specs.Requests.{responseTo}
 use Rattle.stream.specs.declared.inner.Progress.{Progress}
 
 -- what is written while bytes are taken, after `pending` was read of a line that has not ended

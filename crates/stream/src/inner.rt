@@ -5,7 +5,7 @@ ghost use mathlib.Core.List.{List};
 ghost use Prim.Native.Nat.{ℕ, _+_, _≤_, _<_};
 ghost use lib.ListN.{length};
 ghost use Rattle.writing.specs.Wrote.{Wrote};
-ghost use Rattle.requests.specs.Calls.{responseTo};
+ghost use Rattle.requests.specs.Requests.{responseTo};
 ghost use Rattle.stream.specs.Stream.{lastAnswer, responseRoom, Holds, Inside, Took};
 
 // How far the taking of a block has come: the place of the next byte, how much of the line that has not ended stands in the line

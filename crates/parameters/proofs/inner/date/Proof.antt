@@ -1,29 +1,28 @@
 -- Three numbers in turn.
 use native.Mathlib.Omega.{arith}
 use mathlib.Core.Path.{_∙_}
-use mathlib.Core.List.{[], _∷_}
 use mir.Facts.{toZ-ofZ}
 use mir.Syntax.{w32}
-use Rattle.numbers.specs.Kinds.{signed, unsigned}
-use Rattle.numbers.proofs.Laws.{in-array, holds-left, holds-part}
+use Rattle.numbers.specs.Kinds.{signed}
+use Rattle.numbers.proofs.Laws.{in-array, holds-first, holds-from}
 use Rattle.parameters.proofs.Laws.{same-date}
 use Rattle.parameters.proofs.inner.date.Statement.{statement}
 use Rattle.parameters.proofs.inner.date.Tie as tie
 
 int-requires : tie.Need-int-requires
-int-requires c κs = holds-left (signed 32 ∷ []) _ (c .args .n) (c .args .i) (c .pre)
+int-requires c κs = holds-first 1 (c .pre)
 
 add-byte : tie.Need-add-byte
 add-byte c = let s = c .before in omega (arith, in-array (signed 32) _ (s .args .n) (s .args .i) (s .pre))
 
 byte-requires : tie.Need-byte-requires
-byte-requires c κs = let s = c .before in holds-part (signed 32 ∷ []) (unsigned 8 ∷ []) _ (s .args .n) (s .args .i) (s .pre)
+byte-requires c κs = holds-from 1 1 (c .before .pre)
 
 add-byte-2 : tie.Need-add-byte-2
 add-byte-2 c = let s = c .before .before in omega (arith, in-array (signed 32) _ (s .args .n) (s .args .i) (s .pre))
 
 byte-requires-2 : tie.Need-byte-requires-2
-byte-requires-2 c κs = let s = c .before .before in holds-part (signed 32 ∷ unsigned 8 ∷ []) (unsigned 8 ∷ []) _ (s .args .n) (s .args .i) (s .pre)
+byte-requires-2 c κs = holds-from 2 1 (c .before .before .pre)
 
 returns : tie.Need-returns
 returns c =

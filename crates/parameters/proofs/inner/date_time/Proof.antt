@@ -1,19 +1,18 @@
 -- A date, then a time.
 use native.Mathlib.Omega.{arith}
 use Rattle.numbers.specs.Kinds.{signed}
-use Rattle.numbers.proofs.Laws.{in-array, holds-left, holds-right}
-use Rattle.parameters.specs.Parameters.{dateKinds, timeKinds}
+use Rattle.numbers.proofs.Laws.{in-array, holds-first, holds-from}
 use Rattle.parameters.proofs.inner.date_time.Statement.{statement}
 use Rattle.parameters.proofs.inner.date_time.Tie as tie
 
 date-requires : tie.Need-date-requires
-date-requires c κs = holds-left dateKinds timeKinds (c .args .n) (c .args .i) (c .pre)
+date-requires c κs = holds-first 3 (c .pre)
 
 add-time : tie.Need-add-time
 add-time c = let s = c .before in omega (arith, in-array (signed 32) _ (s .args .n) (s .args .i) (s .pre))
 
 time-requires : tie.Need-time-requires
-time-requires c κs = let s = c .before in holds-right dateKinds timeKinds (s .args .n) (s .args .i) (s .pre)
+time-requires c κs = holds-from 3 6 (c .before .pre)
 
 returns : tie.Need-returns
 returns c = rw (c .before .date .ensures, c .time .ensures)

@@ -1,35 +1,34 @@
 -- Four numbers in turn.
 use native.Mathlib.Omega.{arith}
 use mathlib.Core.Path.{_∙_}
-use mathlib.Core.List.{[], _∷_}
 use mir.Facts.{toZ-ofZ}
 use mir.Syntax.{w64}
 use Rattle.numbers.specs.Kinds.{signed}
-use Rattle.numbers.proofs.Laws.{in-array, holds-left, holds-part}
+use Rattle.numbers.proofs.Laws.{in-array, holds-first, holds-from}
 use Rattle.parameters.proofs.Laws.{same-duration}
 use Rattle.parameters.proofs.inner.duration.Statement.{statement}
 use Rattle.parameters.proofs.inner.duration.Tie as tie
 
 long-requires : tie.Need-long-requires
-long-requires c κs = holds-left (signed 64 ∷ []) _ (c .args .n) (c .args .i) (c .pre)
+long-requires c κs = holds-first 1 (c .pre)
 
 add-long : tie.Need-add-long
 add-long c = let s = c .before in omega (arith, in-array (signed 64) _ (s .args .n) (s .args .i) (s .pre))
 
 long-requires-2 : tie.Need-long-requires-2
-long-requires-2 c κs = let s = c .before in holds-part (signed 64 ∷ []) (signed 64 ∷ []) _ (s .args .n) (s .args .i) (s .pre)
+long-requires-2 c κs = holds-from 1 1 (c .before .pre)
 
 add-long-2 : tie.Need-add-long-2
 add-long-2 c = let s = c .before .before in omega (arith, in-array (signed 64) _ (s .args .n) (s .args .i) (s .pre))
 
 long-requires-3 : tie.Need-long-requires-3
-long-requires-3 c κs = let s = c .before .before in holds-part (signed 64 ∷ signed 64 ∷ []) (signed 64 ∷ []) _ (s .args .n) (s .args .i) (s .pre)
+long-requires-3 c κs = holds-from 2 1 (c .before .before .pre)
 
 add-long-3 : tie.Need-add-long-3
 add-long-3 c = let s = c .before .before .before in omega (arith, in-array (signed 64) _ (s .args .n) (s .args .i) (s .pre))
 
 long-requires-4 : tie.Need-long-requires-4
-long-requires-4 c κs = let s = c .before .before .before in holds-part (signed 64 ∷ signed 64 ∷ signed 64 ∷ []) (signed 64 ∷ []) _ (s .args .n) (s .args .i) (s .pre)
+long-requires-4 c κs = holds-from 3 1 (c .before .before .before .pre)
 
 returns : tie.Need-returns
 returns c =

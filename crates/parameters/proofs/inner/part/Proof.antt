@@ -2,20 +2,19 @@
 use Prim.Native.Nat.{_+_}
 use native.Mathlib.Omega.{arith}
 use mathlib.Core.Path.{refl, _∙_, ap}
-use mathlib.Core.List.{[], _∷_}
 use mir.Facts.{toZ-ofZ}
 use mir.Syntax.{w64}
 use lib.IntN.{ℤ}
 use Rattle.date_duration.specs.declared.Part.the-variants.{Kept, Given}
-use Rattle.numbers.specs.Kinds.{unsigned, signed, oneOf}
+use Rattle.numbers.specs.Kinds.{unsigned, oneOf}
 use Rattle.numbers.specs.Meaning.{at, numbersIn}
-use Rattle.numbers.proofs.Laws.{in-array, holds-left, holds-right, wider}
+use Rattle.numbers.proofs.Laws.{in-array, wider, holds-first, holds-from}
 use Rattle.parameters.proofs.Laws.{choice-first, choice-second}
 use Rattle.parameters.proofs.inner.part.Statement.{statement}
 use Rattle.parameters.proofs.inner.part.Tie as tie
 
 word-requires : tie.Need-word-requires
-word-requires c κs = wider (oneOf 2) (unsigned 64) (c .args .n) (c .args .i) refl refl (holds-left (oneOf 2 ∷ []) _ (c .args .n) (c .args .i) (c .pre))
+word-requires c κs = wider (oneOf 2) (unsigned 64) (c .args .n) (c .args .i) refl refl (holds-first 1 (c .pre))
 
 returns : tie.Need-returns
 returns c =
@@ -26,7 +25,7 @@ add-long : tie.Need-add-long
 add-long c = let s = c .before .before in omega (arith, in-array (oneOf 2) _ (s .args .n) (s .args .i) (s .pre))
 
 long-requires : tie.Need-long-requires
-long-requires c κs = let s = c .before .before in holds-right (oneOf 2 ∷ []) (signed 64 ∷ []) (s .args .n) (s .args .i) (s .pre)
+long-requires c κs = holds-from 1 1 (c .before .before .pre)
 
 returns-2 : tie.Need-returns-2
 returns-2 c =

@@ -6,7 +6,7 @@ use mathlib.Core.Path.{sym, ap}
 use lib.ListN.{length}
 use lib.Seq.{length-take-le}
 use Rattle.writing.proofs.Writing.{ends-inside}
-use Rattle.requests.specs.Calls.{responseTo}
+use Rattle.requests.specs.Requests.{responseTo}
 use Rattle.requests.proofs.Laws.{wrote-as}
 use Rattle.stream.proofs.LongLines.{long-lines}
 use Rattle.stream.proofs.inner.end_line.Statement.{statement}

@@ -1,0 +1,2 @@
+// The calls, each on the numbers of a request.
+pub mod inner;
