@@ -2,16 +2,16 @@
 use Prim.Native.Nat.{ℕ, _*_, _^_, _≤_, _<_}
 use native.Mathlib.Omega.{arith}
 use mathlib.Core.Path.{_≡_, refl, sym, _∙_, ap}
-use mathlib.Core.Bool.{true, false, not, _&&_}
+use mathlib.Core.Bool.{true, false, not, _&&_, _||_}
 use borrow.Author.Tests.{leb-true, leb-false, lt-ltb, le-ltb, ltb-true, ne-eqb}
 use lib.Dec.{leb, ltb}
 use lib.IntN.{ℤ, pos, negsuc, negℤ, negℤ-negℤ, natAbs}
-use lib.Signed.{_≤ℤ_, _<ℤ_}
+use lib.Signed.{ltZ, _≤ℤ_, _<ℤ_}
 use mir.Facts.{toZ-ofZ}
 use mir.Syntax.{w64}
 use mir.Val.{SFits, toZ, ofZ}
 use Rattle.whole.proofs.Laws.{ints, size-neg}
-use Rattle.whole.proofs.Tests.{alike, both}
+use Rattle.whole.proofs.Tests.{alike, both, or-assoc}
 use Rattle.refusal.specs.Answer.{refused}
 use Rattle.date_duration.specs.Proposal.{keptOr, duration, anyBelow, anyAbove, small, smallDays, allSmall, isValidDuration, signOf, orElse}
 use Rattle.date_duration.specs.Paper.{newDuration, durationAdjust}
@@ -75,20 +75,16 @@ turnable d e =
       days-small = part-small (d .days) (2 ^ 38) (b .days-low) (omega arith);
     }
 
--- ---- validity
+-- ---- the tests, one after another
 
-module _ (d : DateDuration) where
-  pub not-small : allSmall d ≡ false → false ≡ isValidDuration d
-  unfolding isValidDuration
-  not-small e = rw e
+module _ (y m w d : ℤ) where
+  pub below-tests : (((ltZ y (pos 0) || ltZ m (pos 0)) || ltZ w (pos 0)) || ltZ d (pos 0)) ≡ anyBelow (duration y m w d)
+  unfolding anyBelow
+  below-tests = simp or-assoc
 
-  pub none-below : allSmall d ≡ true → anyBelow d ≡ false → true ≡ isValidDuration d
-  unfolding isValidDuration
-  none-below e f = rw (e, f)
-
-  pub some-below : allSmall d ≡ true → anyBelow d ≡ true → not (anyAbove d) ≡ isValidDuration d
-  unfolding isValidDuration
-  some-below e f = rw (e, f)
+  pub above-tests : (((ltZ (pos 0) y || ltZ (pos 0) m) || ltZ (pos 0) w) || ltZ (pos 0) d) ≡ anyAbove (duration y m w d)
+  unfolding anyAbove
+  above-tests = simp or-assoc
 
 -- ---- signs
 

@@ -106,58 +106,26 @@ fn kept_or(part: Part, old: i64) -> i64
 fn any_below(years: i64, months: i64, weeks: i64, days: i64) -> bool
     ensures { λ r. ⌜ r ≡ anyBelow (duration years months weeks days) ⌝ }
 {
-    if years < 0 {
-        return true;
-    }
-    if months < 0 {
-        return true;
-    }
-    if weeks < 0 {
-        return true;
-    }
-    days < 0
+    (years < 0) | (months < 0) | (weeks < 0) | (days < 0)
 }
 
 fn any_above(years: i64, months: i64, weeks: i64, days: i64) -> bool
     ensures { λ r. ⌜ r ≡ anyAbove (duration years months weeks days) ⌝ }
 {
-    if years > 0 {
-        return true;
-    }
-    if months > 0 {
-        return true;
-    }
-    if weeks > 0 {
-        return true;
-    }
-    days > 0
+    (years > 0) | (months > 0) | (weeks > 0) | (days > 0)
 }
 
 fn all_small(years: i64, months: i64, weeks: i64, days: i64) -> bool
     ensures { λ r. ⌜ r ≡ allSmall (duration years months weeks days) ⌝ }
 {
-    if !is_small(years) {
-        return false;
-    }
-    if !is_small(months) {
-        return false;
-    }
-    if !is_small(weeks) {
-        return false;
-    }
-    is_small_in_days(days)
+    is_small(years) & is_small(months) & is_small(weeks) & is_small_in_days(days)
 }
 
 fn are_valid(years: i64, months: i64, weeks: i64, days: i64) -> bool
     ensures { λ r. ⌜ r ≡ isValidDuration (duration years months weeks days) ⌝ }
 {
-    if !all_small(years, months, weeks, days) {
-        return false;
-    }
-    if !any_below(years, months, weeks, days) {
-        return true;
-    }
-    !any_above(years, months, weeks, days)
+    let opposed = any_below(years, months, weeks, days) & any_above(years, months, weeks, days);
+    all_small(years, months, weeks, days) & !opposed
 }
 
 // The sign of the first part that is not 0.

@@ -62,13 +62,7 @@ pub fn year_start(u: u64) -> u64
 pub fn is_leap(u: u64) -> bool
     ensures { λ r. ⌜ r ≡ leapYear (u ⊖ yearBias) ⌝ }
 {
-    if u % 4 != 0 {
-        return false;
-    }
-    if u % 100 != 0 {
-        return true;
-    }
-    u % 400 == 0
+    (u % 4 == 0) & ((u % 100 != 0) | (u % 400 == 0))
 }
 
 // The length of month m, counted from 1.

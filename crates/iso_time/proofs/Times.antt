@@ -3,13 +3,14 @@ use Prim.Native.Nat.{ℕ, _+_, _*_, _/_, _%_, _≤_, _<_}
 use native.Mathlib.Nat.{mod-lt, div-add-mod}
 use native.Mathlib.Omega.{arith}
 use mathlib.Core.Path.{_≡_, refl, sym, _∙_, ap, ap₂}
-use mathlib.Core.Bool.{true}
+use mathlib.Core.Bool.{true, _&&_}
 use borrow.Author.Tests.{leb-true, le-leb}
+use lib.Dec.{leb}
 use lib.IntN.{ℤ, pos, negℤ, _+ℤ_, _-ℤ_, _*ℤ_}
 use Rattle.options.specs.Units.{nsPerDay}
 use Rattle.whole.specs.Whole.{_⊖_, fdiv, fmod}
 use Rattle.whole.proofs.Laws.{parts, whole, ints, ⊖-sum, fdiv-fmod, fdiv-unique, fmod-lt, quotient, of-pos, read-add, read-neg}
-use Rattle.whole.proofs.Tests.{both}
+use Rattle.whole.proofs.Tests.{both, and-assoc}
 use Rattle.iso_time.specs.Proposal.{time, isValidTime, balanced, balanceTime, nanoseconds}
 use Rattle.iso_time.specs.Inner.{fieldBias}
 use Rattle.iso_time.specs.Claims.{exact, flat}
@@ -25,6 +26,10 @@ pub record Valid (t : IsoTime) : Type 0 where
   pub millis : t .millisecond ≤ 999
   pub micros : t .microsecond ≤ 999
   pub nanos : t .nanosecond ≤ 999
+
+pub time-tests : (t : IsoTime) → (((((leb (t .hour) 23 && leb (t .minute) 59) && leb (t .second) 59) && leb (t .millisecond) 999) && leb (t .microsecond) 999) && leb (t .nanosecond) 999) ≡ isValidTime t
+unfolding isValidTime
+time-tests t = simp and-assoc
 
 pub read-valid : (t : IsoTime) → isValidTime t ≡ true → Valid t
 unfolding isValidTime

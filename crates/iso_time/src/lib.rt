@@ -95,22 +95,12 @@ fn are_bounded(
 ) -> bool
     ensures { λ r. ⌜ r ≡ allBounded hour minute second millisecond microsecond nanosecond ⌝ }
 {
-    if !is_bounded(hour) {
-        return false;
-    }
-    if !is_bounded(minute) {
-        return false;
-    }
-    if !is_bounded(second) {
-        return false;
-    }
-    if !is_bounded(millisecond) {
-        return false;
-    }
-    if !is_bounded(microsecond) {
-        return false;
-    }
-    is_bounded(nanosecond)
+    is_bounded(hour)
+        & is_bounded(minute)
+        & is_bounded(second)
+        & is_bounded(millisecond)
+        & is_bounded(microsecond)
+        & is_bounded(nanosecond)
 }
 
 impl IsoTime {
@@ -118,22 +108,12 @@ impl IsoTime {
     pub fn is_valid(self) -> bool
         ensures { λ r. ⌜ r ≡ isValidTime self ⌝ }
     {
-        if self.hour > 23 {
-            return false;
-        }
-        if self.minute > 59 {
-            return false;
-        }
-        if self.second > 59 {
-            return false;
-        }
-        if self.millisecond > 999 {
-            return false;
-        }
-        if self.microsecond > 999 {
-            return false;
-        }
-        self.nanosecond <= 999
+        (self.hour <= 23)
+            & (self.minute <= 59)
+            & (self.second <= 59)
+            & (self.millisecond <= 999)
+            & (self.microsecond <= 999)
+            & (self.nanosecond <= 999)
     }
 
     // The fields made valid: constrained, or 1 under reject where they are not.

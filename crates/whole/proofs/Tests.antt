@@ -1,7 +1,7 @@
--- Tests one after another. Assumes nothing.
+-- Tests together. Assumes nothing.
 use Prim.Native.Nat.{ℕ}
 use native.Mathlib.Omega.{arith}
-use mathlib.Core.Path.{_≡_, refl, sym}
+use mathlib.Core.Path.{_≡_, refl, sym, _∙_}
 use mathlib.Core.Bool.{Bool, true, false, _&&_, _||_}
 
 -- no test comes out both ways
@@ -12,19 +12,23 @@ pub both : (a b : Bool) → (a && b) ≡ true → (a ≡ true) × (b ≡ true)
 both true b e = (refl, e)
 both false b e = clash false e refl
 
--- all must hold: the first that fails decides, one that passes leaves it to the rest
-pub fails : (a b : Bool) → a ≡ false → false ≡ (a && b)
-fails a b e = rw e
+-- however tests are grouped
+pub and-assoc : (a b c : Bool) → ((a && b) && c) ≡ (a && (b && c))
+and-assoc true b c = refl
+and-assoc false b c = refl
 
-pub passes : (a b : Bool) → a ≡ true → b ≡ (a && b)
-passes a b e = rw e
+pub or-assoc : (a b c : Bool) → ((a || b) || c) ≡ (a || (b || c))
+or-assoc true b c = refl
+or-assoc false b c = refl
 
--- one must hold
-pub holds : (a b : Bool) → a ≡ true → true ≡ (a || b)
-holds a b e = rw e
+pub all-four : {a b c d p q r s : Bool} → a ≡ p → b ≡ q → c ≡ r → d ≡ s → (((a && b) && c) && d) ≡ (p && (q && (r && s)))
+all-four {p = p} {q} {r} {s} e f g h = rw (e, f, g, h) (and-assoc (p && q) r s ∙ and-assoc p q (r && s))
 
-pub goes-on : (a b : Bool) → a ≡ false → b ≡ (a || b)
-goes-on a b e = rw e
+pub all-six : {a b c d i j p q r s t u : Bool} → a ≡ p → b ≡ q → c ≡ r → d ≡ s → i ≡ t → j ≡ u →
+    (((((a && b) && c) && d) && i) && j) ≡ (p && (q && (r && (s && (t && u)))))
+all-six {a} {b} {c} {d} {i} {j} {s = s} {t} {u} e f g h k l =
+    let tail : (d && (i && j)) ≡ (s && (t && u)) = rw (h, k, l) in
+    and-assoc (((a && b) && c) && d) i j ∙ and-assoc ((a && b) && c) d (i && j) ∙ all-four e f g tail
 
 -- whatever stands before them
 pub and-false : (a : Bool) → (a && false) ≡ false

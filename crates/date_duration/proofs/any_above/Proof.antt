@@ -1,48 +1,11 @@
--- The four tests in turn.
-use native.Mathlib.Omega.{arith}
-use mathlib.Core.Path.{_≡_, _∙_}
+-- The four tests.
 use mir.Facts.{toZ-ofZ}
-use mathlib.Core.Bool.{true, false}
-use lib.IntN.{pos}
-use lib.Signed.{ltZ}
-use Rattle.whole.proofs.Laws.{ints}
-use Rattle.date_duration.specs.Proposal.{anyAbove}
-use Rattle.whole.proofs.Tests.{holds, goes-on}
+use Rattle.date_duration.proofs.Durations.{above-tests}
 use Rattle.date_duration.proofs.any_above.Statement.{statement}
 use Rattle.date_duration.proofs.any_above.Tie as tie
 
 returns : tie.Need-returns
-unfolding anyAbove
-returns c =
-    let s = c .before in
-    let e1 : ltZ (pos 0) (s .args .years) ≡ true = omega (arith, ints, c .if1 .taken) in
-    holds _ _ e1
-
-returns-2 : tie.Need-returns-2
-unfolding anyAbove
-returns-2 c =
-    let s = c .before .before in
-    let e1 : ltZ (pos 0) (s .args .years) ≡ false = omega (arith, ints, c .before .if1 .left) in
-    let e2 : ltZ (pos 0) (s .args .months) ≡ true = omega (arith, ints, c .if2 .taken) in
-    holds _ _ e2 ∙ goes-on _ _ e1
-
-returns-3 : tie.Need-returns-3
-unfolding anyAbove
-returns-3 c =
-    let s = c .before .before .before in
-    let e1 : ltZ (pos 0) (s .args .years) ≡ false = omega (arith, ints, c .before .before .if1 .left) in
-    let e2 : ltZ (pos 0) (s .args .months) ≡ false = omega (arith, ints, c .before .if2 .left) in
-    let e3 : ltZ (pos 0) (s .args .weeks) ≡ true = omega (arith, ints, c .if3 .taken) in
-    holds _ _ e3 ∙ goes-on _ _ e2 ∙ goes-on _ _ e1
-
-returns-4 : tie.Need-returns-4
-unfolding anyAbove
-returns-4 c =
-    let s = c .before .before .before in
-    let e1 : ltZ (pos 0) (s .args .years) ≡ false = omega (arith, ints, c .before .before .if1 .left) in
-    let e2 : ltZ (pos 0) (s .args .months) ≡ false = omega (arith, ints, c .before .if2 .left) in
-    let e3 : ltZ (pos 0) (s .args .weeks) ≡ false = omega (arith, ints, c .if3 .left) in
-    rw (toZ-ofZ (s .fits .days)) (goes-on _ _ e3 ∙ goes-on _ _ e2 ∙ goes-on _ _ e1)
+returns c = rw (toZ-ofZ (c .fits .years), toZ-ofZ (c .fits .months), toZ-ofZ (c .fits .weeks), toZ-ofZ (c .fits .days)) (above-tests _ _ _ _)
 
 pub any-above-spec : {M : Type 1} → statement M
-any-above-spec = tie.close (tie.spec returns returns-2 returns-3 returns-4)
+any-above-spec = tie.close (tie.spec returns)
