@@ -241,6 +241,10 @@ holds-from j m {ks} {n} {i} h =
     holds-first m
     (record { are = subst (Are (drop j ks)) (drop-drop j i (numbersIn n)) (are-after j ks (drop i (numbersIn n)) (h .are)); room = h .room })
 
+-- m of all of them, from a place on
+pub holds-at : (m : ℕ) {ks : List Kind} {n : Numbers} {i : ℕ} → Holds ks n 0 → Holds (take m (drop i ks)) n i
+holds-at m {ks} {n} {i} h = let e : 0 + i ≡ i = omega arith in subst (Holds (take m (drop i ks)) n) e (holds-from i m h)
+
 -- a number of a type is one of any wider type
 are-wider : (j k : Kind) (zs : List ℤ) → leZ (k .low) (j .low) ≡ true → leZ (j .high) (k .high) ≡ true → Are (j ∷ []) zs → Are (k ∷ []) zs
 unfolding Are

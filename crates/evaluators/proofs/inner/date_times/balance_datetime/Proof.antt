@@ -5,7 +5,7 @@ use mir.Facts.{toZ-ofZ}
 use mir.Syntax.{w32, w64}
 use Rattle.refusal.specs.Answer.{Answer}
 use Rattle.iso_date_time.specs.declared.IsoDateTime.{IsoDateTime}
-use Rattle.numbers.proofs.Laws.{holds-first, holds-from}
+use Rattle.numbers.proofs.Laws.{holds-at}
 use Rattle.replies.specs.Replies.{dateTimeValues, said, values}
 use Rattle.replies.proofs.Laws.{says-as}
 use Rattle.evaluators.specs.Calls.{meaningOf}
@@ -13,31 +13,31 @@ use Rattle.evaluators.proofs.inner.date_times.balance_datetime.Statemen
 use Rattle.evaluators.proofs.inner.date_times.balance_datetime.Tie as tie
 
 int-requires : tie.Need-int-requires
-int-requires c κs = holds-first 1 (c .pre)
+int-requires c κs = holds-at 1 (c .pre)
 
 int-requires-2 : tie.Need-int-requires-2
-int-requires-2 c κs = holds-from 1 1 (c .before .pre)
+int-requires-2 c κs = holds-at 1 (c .before .pre)
 
 long-requires : tie.Need-long-requires
-long-requires c κs = holds-from 2 1 (c .before .before .pre)
+long-requires c κs = holds-at 1 (c .before .before .pre)
 
 long-requires-2 : tie.Need-long-requires-2
-long-requires-2 c κs = holds-from 3 1 (c .before .before .before .pre)
+long-requires-2 c κs = holds-at 1 (c .before .before .before .pre)
 
 long-requires-3 : tie.Need-long-requires-3
-long-requires-3 c κs = holds-from 4 1 (c .before .before .before .before .pre)
+long-requires-3 c κs = holds-at 1 (c .before .before .before .before .pre)
 
 long-requires-4 : tie.Need-long-requires-4
-long-requires-4 c κs = holds-from 5 1 (c .before .before .before .before .before .pre)
+long-requires-4 c κs = holds-at 1 (c .before .before .before .before .before .pre)
 
 long-requires-5 : tie.Need-long-requires-5
-long-requires-5 c κs = holds-from 6 1 (c .before .before .before .before .before .before .pre)
+long-requires-5 c κs = holds-at 1 (c .before .before .before .before .before .before .pre)
 
 long-requires-6 : tie.Need-long-requires-6
-long-requires-6 c κs = holds-from 7 1 (c .before .before .before .before .before .before .before .pre)
+long-requires-6 c κs = holds-at 1 (c .before .before .before .before .before .before .before .pre)
 
 long-requires-7 : tie.Need-long-requires-7
-long-requires-7 c κs = holds-from 8 1 (c .before .before .before .before .before .before .before .before .pre)
+long-requires-7 c κs = holds-at 1 (c .before .before .before .before .before .before .before .before .pre)
 
 balance-requires : tie.Need-balance-requires
 balance-requires c κs = search needs

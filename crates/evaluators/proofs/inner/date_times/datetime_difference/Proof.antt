@@ -3,7 +3,7 @@ use borrow.Author.Needs.{needs}
 use mathlib.Core.Path.{ap}
 use Rattle.refusal.specs.Answer.{Answer}
 use Rattle.iso_date_time.specs.declared.InternalDurationRecord.{InternalDurationRecord}
-use Rattle.numbers.proofs.Laws.{holds-first, holds-from}
+use Rattle.numbers.proofs.Laws.{holds-at}
 use Rattle.replies.specs.Replies.{recordValues, said, values}
 use Rattle.replies.proofs.Laws.{says-as}
 use Rattle.evaluators.specs.Calls.{meaningOf}
@@ -11,13 +11,13 @@ use Rattle.evaluators.proofs.inner.date_times.datetime_difference.State
 use Rattle.evaluators.proofs.inner.date_times.datetime_difference.Tie as tie
 
 date-time-requires : tie.Need-date-time-requires
-date-time-requires c κs = holds-first 9 (c .pre)
+date-time-requires c κs = holds-at 9 (c .pre)
 
 date-time-requires-2 : tie.Need-date-time-requires-2
-date-time-requires-2 c κs = holds-from 9 9 (c .before .pre)
+date-time-requires-2 c κs = holds-at 9 (c .before .pre)
 
 unit-requires : tie.Need-unit-requires
-unit-requires c κs = holds-from 18 1 (c .before .before .pre)
+unit-requires c κs = holds-at 1 (c .before .before .pre)
 
 diff-requires : tie.Need-diff-requires
 diff-requires c κs = search needs

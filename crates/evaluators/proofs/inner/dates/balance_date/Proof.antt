@@ -5,7 +5,7 @@ use mir.Facts.{toZ-ofZ}
 use mir.Syntax.{w32, w64}
 use Rattle.refusal.specs.Answer.{Answer}
 use Rattle.iso_date.specs.declared.IsoDate.{IsoDate}
-use Rattle.numbers.proofs.Laws.{holds-first, holds-from}
+use Rattle.numbers.proofs.Laws.{holds-at}
 use Rattle.replies.specs.Replies.{dateValues, said, values}
 use Rattle.replies.proofs.Laws.{says-as}
 use Rattle.evaluators.specs.Calls.{meaningOf}
@@ -13,13 +13,13 @@ use Rattle.evaluators.proofs.inner.dates.balance_date.Statement.{statem
 use Rattle.evaluators.proofs.inner.dates.balance_date.Tie as tie
 
 int-requires : tie.Need-int-requires
-int-requires c κs = holds-first 1 (c .pre)
+int-requires c κs = holds-at 1 (c .pre)
 
 int-requires-2 : tie.Need-int-requires-2
-int-requires-2 c κs = holds-from 1 1 (c .before .pre)
+int-requires-2 c κs = holds-at 1 (c .before .pre)
 
 long-requires : tie.Need-long-requires
-long-requires c κs = holds-from 2 1 (c .before .before .pre)
+long-requires c κs = holds-at 1 (c .before .before .pre)
 
 try-balance-requires : tie.Need-try-balance-requires
 try-balance-requires c κs = search needs

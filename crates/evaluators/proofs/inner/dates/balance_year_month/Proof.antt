@@ -4,7 +4,7 @@ use mathlib.Core.Path.{ap}
 use mir.Facts.{toZ-ofZ}
 use mir.Syntax.{w32}
 use Rattle.iso_date.specs.declared.YearMonth.{YearMonth}
-use Rattle.numbers.proofs.Laws.{holds-first, holds-from}
+use Rattle.numbers.proofs.Laws.{holds-at}
 use Rattle.replies.specs.Replies.{answer, yearMonthValues}
 use Rattle.replies.proofs.Laws.{says-as}
 use Rattle.evaluators.specs.Calls.{meaningOf}
@@ -12,10 +12,10 @@ use Rattle.evaluators.proofs.inner.dates.balance_year_month.Statement.{
 use Rattle.evaluators.proofs.inner.dates.balance_year_month.Tie as tie
 
 int-requires : tie.Need-int-requires
-int-requires c κs = holds-first 1 (c .pre)
+int-requires c κs = holds-at 1 (c .pre)
 
 int-requires-2 : tie.Need-int-requires-2
-int-requires-2 c κs = holds-from 1 1 (c .before .pre)
+int-requires-2 c κs = holds-at 1 (c .before .pre)
 
 balance-iso-year-month-requires : tie.Need-balance-iso-year-month-requires
 balance-iso-year-month-requires c κs = search needs

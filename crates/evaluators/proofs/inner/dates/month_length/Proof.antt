@@ -7,7 +7,7 @@ use mir.Syntax.{w32}
 use lib.IntN.{pos}
 use Rattle.refusal.specs.Answer.{Answer}
 use Prim.Native.Nat.{ℕ}
-use Rattle.numbers.proofs.Laws.{holds-first, holds-from}
+use Rattle.numbers.proofs.Laws.{holds-at}
 use Rattle.replies.specs.Replies.{said, values}
 use Rattle.replies.proofs.Laws.{says-as}
 use Rattle.evaluators.specs.Calls.{meaningOf}
@@ -15,10 +15,10 @@ use Rattle.evaluators.proofs.inner.dates.month_length.Statement.{statem
 use Rattle.evaluators.proofs.inner.dates.month_length.Tie as tie
 
 int-requires : tie.Need-int-requires
-int-requires c κs = holds-first 1 (c .pre)
+int-requires c κs = holds-at 1 (c .pre)
 
 byte-requires : tie.Need-byte-requires
-byte-requires c κs = holds-from 1 1 (c .before .pre)
+byte-requires c κs = holds-at 1 (c .before .pre)
 
 iso-days-in-month-requires : tie.Need-iso-days-in-month-requires
 iso-days-in-month-requires c κs = search needs

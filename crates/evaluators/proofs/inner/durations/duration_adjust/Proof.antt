@@ -5,7 +5,7 @@ use mir.Facts.{toZ-ofZ}
 use mir.Syntax.{w64}
 use Rattle.refusal.specs.Answer.{Answer}
 use Rattle.date_duration.specs.declared.DateDuration.{DateDuration}
-use Rattle.numbers.proofs.Laws.{holds-first, holds-from}
+use Rattle.numbers.proofs.Laws.{holds-at}
 use Rattle.replies.specs.Replies.{durationValues, said, values}
 use Rattle.replies.proofs.Laws.{says-as}
 use Rattle.evaluators.specs.Calls.{meaningOf}
@@ -13,16 +13,16 @@ use Rattle.evaluators.proofs.inner.durations.duration_adjust.Statement.
 use Rattle.evaluators.proofs.inner.durations.duration_adjust.Tie as tie
 
 duration-requires : tie.Need-duration-requires
-duration-requires c κs = holds-first 4 (c .pre)
+duration-requires c κs = holds-at 4 (c .pre)
 
 long-requires : tie.Need-long-requires
-long-requires c κs = holds-from 4 1 (c .before .pre)
+long-requires c κs = holds-at 1 (c .before .pre)
 
 part-requires : tie.Need-part-requires
-part-requires c κs = holds-from 5 2 (c .before .before .pre)
+part-requires c κs = holds-at 2 (c .before .before .pre)
 
 part-requires-2 : tie.Need-part-requires-2
-part-requires-2 c κs = holds-from 7 2 (c .before .before .before .pre)
+part-requires-2 c κs = holds-at 2 (c .before .before .before .pre)
 
 adjust-requires : tie.Need-adjust-requires
 adjust-requires c κs = search needs

@@ -3,7 +3,7 @@ use borrow.Author.Needs.{needs}
 use mathlib.Core.Path.{ap}
 use Rattle.refusal.specs.Answer.{Answer}
 use Rattle.date_duration.specs.declared.DateDuration.{DateDuration}
-use Rattle.numbers.proofs.Laws.{holds-first, holds-from}
+use Rattle.numbers.proofs.Laws.{holds-at}
 use Rattle.replies.specs.Replies.{durationValues, said, values}
 use Rattle.replies.proofs.Laws.{says-as}
 use Rattle.evaluators.specs.Calls.{meaningOf}
@@ -11,13 +11,13 @@ use Rattle.evaluators.proofs.inner.sums.date_difference.Statement.{stat
 use Rattle.evaluators.proofs.inner.sums.date_difference.Tie as tie
 
 date-requires : tie.Need-date-requires
-date-requires c κs = holds-first 3 (c .pre)
+date-requires c κs = holds-at 3 (c .pre)
 
 date-requires-2 : tie.Need-date-requires-2
-date-requires-2 c κs = holds-from 3 3 (c .before .pre)
+date-requires-2 c κs = holds-at 3 (c .before .pre)
 
 unit-requires : tie.Need-unit-requires
-unit-requires c κs = holds-from 6 1 (c .before .before .pre)
+unit-requires c κs = holds-at 1 (c .before .before .pre)
 
 diff-iso-date-requires : tie.Need-diff-iso-date-requires
 diff-iso-date-requires c κs = search needs

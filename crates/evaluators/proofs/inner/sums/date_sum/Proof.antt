@@ -3,7 +3,7 @@ use borrow.Author.Needs.{needs}
 use mathlib.Core.Path.{ap}
 use Rattle.refusal.specs.Answer.{Answer}
 use Rattle.iso_date.specs.declared.IsoDate.{IsoDate}
-use Rattle.numbers.proofs.Laws.{holds-first, holds-from}
+use Rattle.numbers.proofs.Laws.{holds-at}
 use Rattle.replies.specs.Replies.{dateValues, said, values}
 use Rattle.replies.proofs.Laws.{says-as}
 use Rattle.evaluators.specs.Calls.{meaningOf}
@@ -11,13 +11,13 @@ use Rattle.evaluators.proofs.inner.sums.date_sum.Statement.{statement}
 use Rattle.evaluators.proofs.inner.sums.date_sum.Tie as tie
 
 date-requires : tie.Need-date-requires
-date-requires c κs = holds-first 3 (c .pre)
+date-requires c κs = holds-at 3 (c .pre)
 
 duration-requires : tie.Need-duration-requires
-duration-requires c κs = holds-from 3 4 (c .before .pre)
+duration-requires c κs = holds-at 4 (c .before .pre)
 
 overflow-requires : tie.Need-overflow-requires
-overflow-requires c κs = holds-from 7 1 (c .before .before .pre)
+overflow-requires c κs = holds-at 1 (c .before .before .pre)
 
 add-date-duration-requires : tie.Need-add-date-duration-requires
 add-date-duration-requires c κs = search needs

@@ -3,7 +3,7 @@ use borrow.Author.Needs.{needs}
 use mathlib.Core.Path.{ap}
 use Rattle.refusal.specs.Answer.{Answer}
 use Rattle.iso_time.specs.declared.IsoTime.{IsoTime}
-use Rattle.numbers.proofs.Laws.{holds-first, holds-from}
+use Rattle.numbers.proofs.Laws.{holds-at}
 use Rattle.replies.specs.Replies.{said, timeValues, values}
 use Rattle.replies.proofs.Laws.{says-as}
 use Rattle.evaluators.specs.Calls.{meaningOf}
@@ -11,10 +11,10 @@ use Rattle.evaluators.proofs.inner.times.regulate_time.Statement.{state
 use Rattle.evaluators.proofs.inner.times.regulate_time.Tie as tie
 
 time-requires : tie.Need-time-requires
-time-requires c κs = holds-first 6 (c .pre)
+time-requires c κs = holds-at 6 (c .pre)
 
 overflow-requires : tie.Need-overflow-requires
-overflow-requires c κs = holds-from 6 1 (c .before .pre)
+overflow-requires c κs = holds-at 1 (c .before .pre)
 
 new-requires : tie.Need-new-requires
 new-requires c κs = search needs

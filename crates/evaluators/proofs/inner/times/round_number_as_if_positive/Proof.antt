@@ -6,7 +6,7 @@ use mir.Facts.{toZ-ofZ}
 use mir.Syntax.{w64}
 use lib.IntN.{ℤ}
 use Rattle.refusal.specs.Answer.{Answer}
-use Rattle.numbers.proofs.Laws.{holds-first, holds-from}
+use Rattle.numbers.proofs.Laws.{holds-at}
 use Rattle.replies.specs.Replies.{said, values}
 use Rattle.replies.proofs.Laws.{says-as}
 use Rattle.evaluators.specs.Calls.{meaningOf}
@@ -14,13 +14,13 @@ use Rattle.evaluators.proofs.inner.times.round_number_as_if_positive.St
 use Rattle.evaluators.proofs.inner.times.round_number_as_if_positive.Tie as tie
 
 long-requires : tie.Need-long-requires
-long-requires c κs = holds-first 1 (c .pre)
+long-requires c κs = holds-at 1 (c .pre)
 
 word-requires : tie.Need-word-requires
-word-requires c κs = holds-from 1 1 (c .before .pre)
+word-requires c κs = holds-at 1 (c .before .pre)
 
 mode-requires : tie.Need-mode-requires
-mode-requires c κs = holds-from 2 1 (c .before .before .pre)
+mode-requires c κs = holds-at 1 (c .before .before .pre)
 
 round-as-if-positive-requires : tie.Need-round-as-if-positive-requires
 round-as-if-positive-requires c κs = search needs

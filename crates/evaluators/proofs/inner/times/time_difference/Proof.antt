@@ -3,7 +3,7 @@ use borrow.Author.Needs.{needs}
 use mathlib.Core.Path.{ap}
 use Rattle.refusal.specs.Answer.{Answer}
 use Rattle.iso_time.specs.declared.TimeDuration.{TimeDuration}
-use Rattle.numbers.proofs.Laws.{holds-first, holds-from}
+use Rattle.numbers.proofs.Laws.{holds-at}
 use Rattle.replies.specs.Replies.{said, spanValues, values}
 use Rattle.replies.proofs.Laws.{says-as}
 use Rattle.evaluators.specs.Calls.{meaningOf}
@@ -11,10 +11,10 @@ use Rattle.evaluators.proofs.inner.times.time_difference.Statement.{sta
 use Rattle.evaluators.proofs.inner.times.time_difference.Tie as tie
 
 time-requires : tie.Need-time-requires
-time-requires c κs = holds-first 6 (c .pre)
+time-requires c κs = holds-at 6 (c .pre)
 
 time-requires-2 : tie.Need-time-requires-2
-time-requires-2 c κs = holds-from 6 6 (c .before .pre)
+time-requires-2 c κs = holds-at 6 (c .before .pre)
 
 diff-requires : tie.Need-diff-requires
 diff-requires c κs = search needs
