@@ -4,7 +4,6 @@ use whole::inner::negated;
 use whole::inner::plus;
 use whole::inner::size_below;
 ghost use mathlib.Core.Path.{_≡_};
-ghost use mathlib.Core.Bool.{true};
 ghost use Prim.Native.Nat.{_<_, _^_};
 ghost use lib.IntN.{natAbs, pos, negℤ};
 ghost use Rattle.date_duration.specs.Proposal.{duration, signOf, small, smallDays, allSmall, anyBelow, anyAbove, isValidDuration, dateDurationSign, keptOr};

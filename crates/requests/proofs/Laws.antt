@@ -12,7 +12,7 @@ use Rattle.whole.proofs.Tests.{both}
 use Rattle.lines.specs.Text.{fields, newline, placeIn}
 use Rattle.writing.specs.Text.{answerText, questionText}
 use Rattle.writing.specs.Wrote.{Wrote}
-use Rattle.calls.specs.Names.{callIn, everyCall, namesOf, isKnown}
+use Rattle.calls.specs.Names.{everyCall, namesOf, isKnown}
 use Rattle.calls.specs.declared.Call.{Call}
 use Rattle.calls.specs.declared.Call.the-variants.{Unknown}
 use Rattle.calls.proofs.Names.{call-there}
