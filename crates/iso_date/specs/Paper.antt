@@ -1,4 +1,4 @@
--- What the calls of modules 1 and 2 answer, for every input: the checks in their order with their numbers, then the answer.
+-- What the calls on dates answer, for every input: the checks in their order with their numbers, then the answer.
 use Prim.Native.Nat.{ℕ, _^_, _-_}
 use mathlib.Core.Bool.{Bool, _&&_}
 use lib.Dec.{leb}
@@ -39,7 +39,7 @@ abbrev pub ofLimit : LimitResult.LimitResult → Answer (Unit {0})
 ofLimit W.Within = given tt
 ofLimit (W.Refused n) = refused n
 
--- ---- module 1: day counts and month lengths
+-- ---- day counts and month lengths
 
 unfoldable pub monthLength : ℤ → ℕ → Answer ℕ
 monthLength y m = check (leb 1 m && leb m 12) 1 (given (isoDaysInMonth y m))
@@ -54,7 +54,7 @@ dateToDay d = check (isValidISODate d) 1 (check (balanced (epochDays d)) 4 (give
 unfoldable pub dayToDate : ℤ → Answer IsoDate
 dayToDate n = check (balanced n) 4 (given (epochDaysToISODate n))
 
--- ---- module 2: year-month balance, regulating and limits
+-- ---- year-month balance, regulating and limits
 
 abbrev pub yearMonth : ℤ → ℕ → YearMonth
 yearMonth y m = record { year = y; month = m }

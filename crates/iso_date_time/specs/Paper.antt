@@ -31,7 +31,7 @@ abbrev pub ofDifference : DifferenceResult → Answer InternalDurationRecord
 ofDifference (D.Difference d) = given d
 ofDifference (D.Refused n) = refused n
 
--- ---- module 8
+-- ---- dates with a time
 
 -- a record: the fields of its date, those of its time, its limits
 unfoldable pub dateTimeLimits : IsoDateTime → Answer (Unit {0})

@@ -1,4 +1,4 @@
--- What the calls of modules 3 and 5 answer, for every input: the checks in their order with their numbers, then the answer.
+-- What the calls on times answer, for every input: the checks in their order with their numbers, then the answer.
 use Prim.Native.Nat.{ℕ}
 use mathlib.Core.Bool.{Bool, _&&_}
 use lib.Dec.{leb}
@@ -34,7 +34,7 @@ abbrev pub ofSpan : SpanResult → Answer TimeDuration
 ofSpan (S.Span d) = given d
 ofSpan (S.Refused n) = refused n
 
--- ---- module 3: time records
+-- ---- time records
 
 unfoldable pub regulateTime : IsoTime → Overflow → Answer IsoTime
 regulateTime t Constrain = given (constrainTime t)
@@ -53,7 +53,7 @@ balanceTimeFields h m s ms us ns = check (allBounded h m s ms us ns) 7 (given (b
 unfoldable pub timeDifference : IsoTime → IsoTime → Answer TimeDuration
 timeDifference one two = check (isValidTime one) 1 (check (isValidTime two) 1 (given (differenceTime one two)))
 
--- ---- module 5: time rounding
+-- ---- time rounding
 
 -- the units that a time can be rounded to: day to nanosecond
 abbrev pub isRoundingUnit : TemporalUnit → Bool

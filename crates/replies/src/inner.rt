@@ -53,7 +53,7 @@ pub fn number_alone(number: u8) -> Written
     }
 }
 
-// An answer with up to three values, of which the first `count` are meant.
+// Answers of one value and of three.
 fn one_value(a: i64) -> Written
     ensures { λ r. ⌜ Says r (answer 0 (a ∷ [])) ⌝ }
 {
