@@ -436,13 +436,14 @@ CALLS = {
     'datetime_from_instant': (datetime_from_instant, [I64] * 3),
 }
 TABLE = {name.encode(): (f, kinds) for name, (f, kinds) in CALLS.items()}
+LONGEST = 1000
 FORM = re.compile(rb'[a-z_]+(?: (?:0|-?[1-9][0-9]{0,19}))+')
 
 
 def answer(line):
     if not line:
         return ''
-    if not FORM.fullmatch(line):
+    if len(line) > LONGEST or not FORM.fullmatch(line):
         return '?'
     words = line.split(b' ')
     call = TABLE.get(words[0])

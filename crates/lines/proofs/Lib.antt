@@ -1,5 +1,4 @@
-pub mod Fields
+pub mod Words
 pub mod Numbers
 pub mod Within
-pub mod Lengths
 pub mod Pinned

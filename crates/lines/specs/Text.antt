@@ -1,5 +1,5 @@
 -- The text of the line protocol. A line is a list of bytes, without its newline.
-use Prim.Native.Nat.{ℕ, suc, _+_, _-_, _*_, _^_}
+use Prim.Native.Nat.{ℕ, _+_, _-_, _*_, _^_}
 use mathlib.Core.Bool.{Bool, true, false, cond, _&&_, not}
 use mathlib.Core.List.{List, [], _∷_}
 use lib.Dec.{ltb, leb, eqb}
@@ -22,26 +22,28 @@ questionMark = 63
 abbrev pub newline : ℕ
 newline = 10
 
--- ---- fields: what stands between single spaces. Two spaces in a row, or one at an end, have an empty field between them
+-- ---- words: what stands between single spaces. Two spaces in a row, or one at an end, have an empty word between them
 
-abbrev pub joinFirst : ℕ → List (List ℕ) → List (List ℕ)
-joinFirst b [] = (b ∷ []) ∷ []
-joinFirst b (f ∷ fs) = (b ∷ f) ∷ fs
+-- what stands before the first space, or all
+unfoldable pub word : List ℕ → List ℕ
+word [] = []
+word (b ∷ bs) = cond (eqb b space) [] (b ∷ word bs)
 
-unfoldable pub fields : List ℕ → List (List ℕ)
-fields [] = [] ∷ []
-fields (b ∷ bs) = cond (eqb b space) ([] ∷ fields bs) (joinFirst b (fields bs))
+-- that space and what follows it, or nothing
+unfoldable pub rest : List ℕ → List ℕ
+rest [] = []
+rest (b ∷ bs) = cond (eqb b space) (b ∷ bs) (rest bs)
+
+-- a text in which there is no space
+abbrev pub spaceless : List ℕ → Bool
+spaceless [] = true
+spaceless (b ∷ bs) = cond (eqb b space) false (spaceless bs)
 
 abbrev pub sameBytes : List ℕ → List ℕ → Bool
 sameBytes [] [] = true
 sameBytes [] (b ∷ bs) = false
 sameBytes (a ∷ rest) [] = false
 sameBytes (a ∷ rest) (b ∷ bs) = eqb a b && sameBytes rest bs
-
--- the place, from 0, of the first of some texts that is the word; as many as there are, where none is
-unfoldable pub placeIn : List (List ℕ) → List ℕ → ℕ
-placeIn [] word = 0
-placeIn (f ∷ fs) word = cond (sameBytes word f) 0 (suc (placeIn fs word))
 
 -- ---- numbers
 

@@ -1,17 +1,15 @@
-// The text of the line protocol: what the fields of a line are, and which of them are numbers.
+// The text of a line: where a word of it ends, and which words are numbers.
 // Nothing of calendars.
-use check::same;
 ghost use mathlib.Core.Path.{_≡_};
 ghost use mathlib.Core.Bool.{cond, _&&_};
-ghost use mathlib.Core.List.{[]};
-ghost use Prim.Native.Nat.{_-_, _^_, _≤_};
+ghost use Prim.Native.Nat.{_+_, _^_};
 ghost use lib.Dec.{ltb};
 ghost use lib.IntN.{pos, negℤ};
-ghost use lib.ListN.{length, take, drop, getD};
-ghost use Rattle.lines.specs.Text.{fields, placeIn, allDigits, valueFrom, naturalOf, numberOf, within, number, none};
+ghost use lib.ListN.{length, drop};
+ghost use Rattle.lines.specs.Text.{word, allDigits, valueFrom, naturalOf, numberOf, within, number, none};
 ghost use Rattle.lines.specs.Meaning.{ofNumber, ofNatural};
 
-// What stands between two fields.
+// What stands between two words.
 const SPACE: u8 = b' ';
 
 // The size of the smallest i64, -2^63.
@@ -30,49 +28,19 @@ enum Natural {
     Not,
 }
 
-// How many fields the line has: one more than it has spaces.
-// An empty line has one field, which is empty.
-pub fn field_count(line: &[u8]) -> usize
-    ensures { λ r. ⌜ r ≡ length (fields (now (line .entry))) ⌝ }
+// Where the word that starts at a place of the line ends: at the first space from there on, or at the line's end.
+// From past the line's end on there is no word, and it ends where it starts.
+pub fn word_end(line: &[u8], from: usize) -> usize
+    ensures { λ r. ⌜ r ≡ from + length (word (drop from (now (line .entry)))) ⌝ }
 {
-    let mut n: usize = 1;
-    let mut at = 0;
+    let mut at = from;
     while at < line.len() {
         if line[at] == SPACE {
-            n += 1;
+            return at;
         }
         at += 1;
     }
-    n
-}
-
-// Field i of the line, counted from 0: what stands between two spaces, or a space and an end of the line.
-// A field that the line does not have is empty.
-pub fn field(line: &[u8], i: usize) -> &[u8]
-    ensures { λ r. ⌜ now r ≡ getD (fields (now (line .entry))) i [] ⌝ }
-{
-    let from = field_start(line, i);
-    let end = field_end(line, from);
-    &line[from..end]
-}
-
-// The place of the first field that is the word, counted from 0; as many as there are fields, where none is.
-pub fn place_of(line: &[u8], word: &[u8]) -> usize
-    ensures { λ r. ⌜ r ≡ placeIn (fields (now (line .entry))) (now (word .entry)) ⌝ }
-{
-    let mut place: usize = 0;
-    let mut from = 0;
-    loop {
-        let end = field_end(line, from);
-        if same(word, &line[from..end]) {
-            return place;
-        }
-        if end == line.len() {
-            return place + 1;
-        }
-        from = end + 1;
-        place += 1;
-    }
+    at
 }
 
 // The number whose one shortest form the text is: a natural below 2^64, or a number from -2^63 to -1.
@@ -101,45 +69,25 @@ pub fn read_number(text: &[u8]) -> Number
     Number::Minus(size - 1)
 }
 
-// The number that field i of the line is, where it lies from -below to high.
-// None, where it lies outside, and where the field is no number or the line has no such field.
-pub fn number_at(line: &[u8], i: usize, below: u64, high: u64) -> Number
-    ensures { λ r. ⌜ ofNumber r ≡ within (negℤ (pos below)) (pos high) (numberOf (getD (fields (now (line .entry))) i [])) ⌝ }
+// The number, where it lies from -below to high; none, where it lies outside or is none.
+pub fn number_within(x: Number, below: u64, high: u64) -> Number
+    ensures { λ r. ⌜ ofNumber r ≡ within (negℤ (pos below)) (pos high) (ofNumber x) ⌝ }
 {
-    number_within(read_number(field(line, i)), below, high)
-}
-
-// Where field i of the line starts; the line's end, where it has no such field.
-fn field_start(line: &[u8], i: usize) -> usize
-    ensures { λ r. ⌜ (r ≤ length (now (line .entry))) × (getD (fields (drop r (now (line .entry)))) 0 [] ≡ getD (fields (now (line .entry))) i []) ⌝ }
-{
-    let mut left = i;
-    let mut at = 0;
-    while at < line.len() {
-        if left == 0 {
-            return at;
+    match x {
+        Number::Plus(n) => {
+            if high < n {
+                return Number::Not;
+            }
+            Number::Plus(n)
         }
-        if line[at] == SPACE {
-            left -= 1;
+        Number::Minus(n) => {
+            if below <= n {
+                return Number::Not;
+            }
+            Number::Minus(n)
         }
-        at += 1;
+        Number::Not => Number::Not,
     }
-    at
-}
-
-// Where the field that starts at `from` ends: at the first space, or at the line's end.
-fn field_end(line: &[u8], from: usize) -> usize
-    requires { ⌜ from ≤ length (now line) ⌝ }
-    ensures { λ r. ⌜ (from ≤ r) × ((r ≤ length (now (line .entry))) × (take (r - from) (drop from (now (line .entry))) ≡ getD (fields (drop from (now (line .entry)))) 0 [])) ⌝ }
-{
-    let mut at = from;
-    while at < line.len() {
-        if line[at] == SPACE {
-            return at;
-        }
-        at += 1;
-    }
-    at
 }
 
 // The natural below 2^64 whose shortest form the text is, or none.
@@ -179,25 +127,4 @@ fn digits_value(text: &[u8]) -> Natural
         at += 1;
     }
     Natural::Is(value)
-}
-
-// What was read, where it lies from -below to high.
-fn number_within(x: Number, below: u64, high: u64) -> Number
-    ensures { λ r. ⌜ ofNumber r ≡ within (negℤ (pos below)) (pos high) (ofNumber x) ⌝ }
-{
-    match x {
-        Number::Plus(n) => {
-            if high < n {
-                return Number::Not;
-            }
-            Number::Plus(n)
-        }
-        Number::Minus(n) => {
-            if below <= n {
-                return Number::Not;
-            }
-            Number::Minus(n)
-        }
-        Number::Not => Number::Not,
-    }
 }

@@ -1,1 +1,4 @@
+pub mod Kinds
+pub mod Meaning
+pub mod Letters
 pub mod Parameters

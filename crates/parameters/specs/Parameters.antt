@@ -21,8 +21,8 @@ use Rattle.options.specs.declared.Unit.{Unit as TemporalUnit}
 use Rattle.options.specs.declared.Unit.the-variants as U
 use Rattle.rounding.specs.declared.RoundingMode.{RoundingMode}
 use Rattle.rounding.specs.declared.RoundingMode.the-variants as M
-use Rattle.numbers.specs.Kinds.{Kind, signed, unsigned, oneOf}
-use Rattle.numbers.specs.Meaning.{at, natAt}
+use Rattle.parameters.specs.Kinds.{Kind, signed, unsigned, oneOf}
+use Rattle.parameters.specs.Meaning.{at, natAt}
 
 -- ---- types
 

@@ -1,128 +1,187 @@
-// From the i-th number of a request on: a value of a parameter's type.
-use date_duration::DateDuration;
-use date_duration::Part;
-use iso_date::IsoDate;
-use iso_date_time::IsoDateTime;
-use iso_time::IsoTime;
-use numbers::Numbers;
-use numbers::inner::byte;
-use numbers::inner::int;
-use numbers::inner::long;
-use numbers::inner::short;
-use numbers::inner::word;
-use options::Overflow;
-use options::Unit;
-use rounding::RoundingMode;
+// The numbers of a request, and one of them as a value of its parameter's type.
+pub mod values;
+
+use crate::Bounds;
+use crate::Cell;
+use crate::Numbers;
+use lines::Number;
+use lines::number_within;
+use lines::read_number;
+use lines::word_end;
+use whole::inner::minus;
+use whole::inner::plus;
 ghost use mathlib.Core.Path.{_≡_};
 ghost use mathlib.Core.List.{[], _∷_};
-ghost use Rattle.numbers.specs.Meaning.{Holds, numbersIn, at};
-ghost use Rattle.parameters.specs.Parameters.{dateKinds, timeKinds, dateTimeKinds, durationKinds, choiceKinds, overflowKind, unitKind, modeKind, dateAt, timeAt, dateTimeAt, durationAt, partAt, overflowOf, unitOf, modeOf};
+ghost use Prim.Native.Nat.{_≤_};
+ghost use lib.ListN.{drop, length};
+ghost use Rattle.lines.specs.Text.{numberOf, within};
+ghost use Rattle.lines.specs.Meaning.{ofNumber};
+ghost use Rattle.parameters.specs.Kinds.{signed, unsigned, arguments, noArguments};
+ghost use Rattle.parameters.specs.Meaning.{Reads, Holds, numbersIn, at, natAt};
+ghost use Rattle.parameters.specs.Letters.{letterKind, lettersKinds, boundsOf, isNumber, cellOf};
 
-// The units and the modes by their numbers.
-const UNITS: [Unit; 10] = [
-    Unit::Year,
-    Unit::Month,
-    Unit::Week,
-    Unit::Day,
-    Unit::Hour,
-    Unit::Minute,
-    Unit::Second,
-    Unit::Millisecond,
-    Unit::Microsecond,
-    Unit::Nanosecond,
-];
-
-const MODES: [RoundingMode; 9] = [
-    RoundingMode::Ceil,
-    RoundingMode::Floor,
-    RoundingMode::Expand,
-    RoundingMode::Trunc,
-    RoundingMode::HalfCeil,
-    RoundingMode::HalfFloor,
-    RoundingMode::HalfExpand,
-    RoundingMode::HalfTrunc,
-    RoundingMode::HalfEven,
-];
-
-pub fn date(n: Numbers, i: usize) -> IsoDate
-    requires { ⌜ Holds dateKinds n i ⌝ }
-    ensures { λ r. ⌜ r ≡ dateAt (numbersIn n) i ⌝ }
+// The numbers of a line from a place of it on, where a space and a number follow for each letter, each number is of its letter's
+// type, and nothing follows them. The place is that after a word.
+pub fn numbers_of(line: &[u8], from: usize, letters: &[u8]) -> Numbers
+    requires { ⌜ (from ≤ length (now line)) × (length (now letters) ≤ 24) ⌝ }
+    ensures { λ r. ⌜ Reads r (arguments (lettersKinds (now (letters .entry))) (drop from (now (line .entry)))) ⌝ }
 {
-    IsoDate {
-        year: int(n, i),
-        month: byte(n, i + 1),
-        day: byte(n, i + 2),
+    let mut cells = [Cell {
+        negative: false,
+        size: 0,
+    }; 24];
+    let mut at = from;
+    let mut k = 0;
+    while k < letters.len() {
+        if at == line.len() {
+            return no_numbers();
+        }
+        let start = at + 1;
+        let end = word_end(line, start);
+        let x = number_of(&line[start..end], letters[k]);
+        if !is_number(x) {
+            return no_numbers();
+        }
+        cells[k] = cell_of(x);
+        at = end;
+        k += 1;
+    }
+    if at < line.len() {
+        return no_numbers();
+    }
+    Numbers {
+        known: true,
+        count: k,
+        cells,
     }
 }
 
-pub fn time(n: Numbers, i: usize) -> IsoTime
-    requires { ⌜ Holds timeKinds n i ⌝ }
-    ensures { λ r. ⌜ r ≡ timeAt (numbersIn n) i ⌝ }
+// The number that a word is, where it is of the letter's type.
+fn number_of(word: &[u8], letter: u8) -> Number
+    ensures { λ r. ⌜ ofNumber r ≡ within (letterKind letter .low) (letterKind letter .high) (numberOf (now (word .entry))) ⌝ }
 {
-    IsoTime {
-        hour: byte(n, i),
-        minute: byte(n, i + 1),
-        second: byte(n, i + 2),
-        millisecond: short(n, i + 3),
-        microsecond: short(n, i + 4),
-        nanosecond: short(n, i + 5),
+    let bounds = bounds_of(letter);
+    number_within(read_number(word), bounds.below, bounds.high)
+}
+
+// No numbers: the line is no request.
+fn no_numbers() -> Numbers
+    ensures { λ r. ⌜ Reads r noArguments ⌝ }
+{
+    Numbers {
+        known: false,
+        count: 0,
+        cells: [Cell {
+            negative: false,
+            size: 0,
+        }; 24],
     }
 }
 
-pub fn date_time(n: Numbers, i: usize) -> IsoDateTime
-    requires { ⌜ Holds dateTimeKinds n i ⌝ }
-    ensures { λ r. ⌜ r ≡ dateTimeAt (numbersIn n) i ⌝ }
+fn is_number(x: Number) -> bool
+    ensures { λ r. ⌜ r ≡ isNumber x ⌝ }
 {
-    let date = date(n, i);
-    let time = time(n, i + 3);
-    IsoDateTime { date, time }
-}
-
-pub fn duration(n: Numbers, i: usize) -> DateDuration
-    requires { ⌜ Holds durationKinds n i ⌝ }
-    ensures { λ r. ⌜ r ≡ durationAt (numbersIn n) i ⌝ }
-{
-    DateDuration {
-        years: long(n, i),
-        months: long(n, i + 1),
-        weeks: long(n, i + 2),
-        days: long(n, i + 3),
+    match x {
+        Number::Plus(n) => true,
+        Number::Minus(n) => true,
+        Number::Not => false,
     }
 }
 
-// 0 keeps the part, and 1 gives it the number that follows.
-pub fn part(n: Numbers, i: usize) -> Part
-    requires { ⌜ Holds choiceKinds n i ⌝ }
-    ensures { λ r. ⌜ r ≡ partAt (numbersIn n) i ⌝ }
+fn cell_of(x: Number) -> Cell
+    ensures { λ r. ⌜ r ≡ cellOf x ⌝ }
 {
-    if word(n, i) == 0 {
-        return Part::Kept;
+    match x {
+        Number::Plus(n) => Cell {
+            negative: false,
+            size: n,
+        },
+        Number::Minus(n) => Cell {
+            negative: true,
+            size: n,
+        },
+        Number::Not => Cell {
+            negative: false,
+            size: 0,
+        },
     }
-    Part::Given(long(n, i + 1))
 }
 
-pub fn overflow(n: Numbers, i: usize) -> Overflow
-    requires { ⌜ Holds (overflowKind ∷ []) n i ⌝ }
-    ensures { λ r. ⌜ r ≡ overflowOf (at (numbersIn n) i) ⌝ }
+// i and l: 32 and 64 bits with a sign. b, s and w: 8, 16 and 64 bits without.
+// f: a flag. m: a rounding mode. u, and any other letter: a unit.
+fn bounds_of(letter: u8) -> Bounds
+    ensures { λ r. ⌜ r ≡ boundsOf letter ⌝ }
 {
-    if word(n, i) == 0 {
-        return Overflow::Constrain;
+    match letter {
+        b'i' => Bounds {
+            below: 0x8000_0000,
+            high: 0x7fff_ffff,
+        },
+        b'l' => Bounds {
+            below: 0x8000_0000_0000_0000,
+            high: 0x7fff_ffff_ffff_ffff,
+        },
+        b'b' => Bounds {
+            below: 0,
+            high: 255,
+        },
+        b's' => Bounds {
+            below: 0,
+            high: 65_535,
+        },
+        b'w' => Bounds {
+            below: 0,
+            high: u64::MAX,
+        },
+        b'f' => Bounds { below: 0, high: 1 },
+        b'm' => Bounds { below: 0, high: 8 },
+        _ => Bounds { below: 0, high: 9 },
     }
-    Overflow::Reject
 }
 
-pub fn unit(n: Numbers, i: usize) -> Unit
-    requires { ⌜ Holds (unitKind ∷ []) n i ⌝ }
-    ensures { λ r. ⌜ r ≡ unitOf (at (numbersIn n) i) ⌝ }
+// A number of 64 bits with a sign.
+pub fn long(n: Numbers, i: usize) -> i64
+    requires { ⌜ Holds (signed 64 ∷ []) n i ⌝ }
+    ensures { λ r. ⌜ r ≡ at (numbersIn n) i ⌝ }
 {
-    let place = word(n, i) as usize;
-    UNITS[place]
+    let cells = n.cells;
+    let c = cells[i];
+    if c.negative {
+        return minus(c.size);
+    }
+    plus(c.size)
 }
 
-pub fn mode(n: Numbers, i: usize) -> RoundingMode
-    requires { ⌜ Holds (modeKind ∷ []) n i ⌝ }
-    ensures { λ r. ⌜ r ≡ modeOf (at (numbersIn n) i) ⌝ }
+// A number of 32 bits with a sign.
+pub fn int(n: Numbers, i: usize) -> i32
+    requires { ⌜ Holds (signed 32 ∷ []) n i ⌝ }
+    ensures { λ r. ⌜ r ≡ at (numbersIn n) i ⌝ }
 {
-    let place = word(n, i) as usize;
-    MODES[place]
+    long(n, i) as i32
+}
+
+// A natural of 64 bits.
+pub fn word(n: Numbers, i: usize) -> u64
+    requires { ⌜ Holds (unsigned 64 ∷ []) n i ⌝ }
+    ensures { λ r. ⌜ r ≡ natAt (numbersIn n) i ⌝ }
+{
+    let cells = n.cells;
+    let c = cells[i];
+    c.size
+}
+
+// A natural of 16 bits.
+pub fn short(n: Numbers, i: usize) -> u16
+    requires { ⌜ Holds (unsigned 16 ∷ []) n i ⌝ }
+    ensures { λ r. ⌜ r ≡ natAt (numbersIn n) i ⌝ }
+{
+    word(n, i) as u16
+}
+
+// A natural of 8 bits.
+pub fn byte(n: Numbers, i: usize) -> u8
+    requires { ⌜ Holds (unsigned 8 ∷ []) n i ⌝ }
+    ensures { λ r. ⌜ r ≡ natAt (numbersIn n) i ⌝ }
+{
+    word(n, i) as u8
 }

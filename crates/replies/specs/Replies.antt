@@ -1,8 +1,11 @@
--- Replies, and the values of each kind of answer in their order.
-use Prim.Native.Nat.{ℕ}
+-- What answers a request, and the values of each kind of answer in their order.
+use Prim.Native.Nat.{ℕ, _+_, _≤_}
 use mathlib.Core.List.{List, [], _∷_, _++_}
 use lib.IntN.{ℤ, pos, negℤ}
 use Rattle.refusal.specs.Answer.{Answer, given, refused}
+use Rattle.lines.specs.Text.{digitZero}
+use Rattle.writing.specs.Text.{decimal, spaced}
+use Rattle.writing.specs.Wrote.{Wrote}
 use Rattle.iso_date.specs.declared.IsoDate.{IsoDate}
 use Rattle.iso_date.specs.declared.YearMonth.{YearMonth}
 use Rattle.iso_time.specs.declared.IsoTime.{IsoTime}
@@ -14,18 +17,31 @@ use Rattle.date_duration.specs.declared.Sign.the-variants as S
 use Rattle.iso_date_time.specs.declared.IsoDateTime.{IsoDateTime}
 use Rattle.iso_date_time.specs.declared.InternalDurationRecord.{InternalDurationRecord}
 
-pub data Reply : Type 0 where
-  question : Reply
-  answer : ℕ → List ℤ → Reply
+-- an answer is 0 and the bytes that follow it, a refusal its number alone
+abbrev pub replyText : Answer (List ℕ) → List ℕ
+replyText (given bytes) = digitZero ∷ bytes
+replyText (refused n) = decimal (pos n)
 
--- an answer carries 0 and its values, a refusal its number alone
-abbrev pub said : Answer (List ℤ) → Reply
-said (given vs) = answer 0 vs
-said (refused n) = answer n []
+-- the bytes that follow the 0 where an answer's values are numbers
+abbrev pub shown : {A : Type 0} → (A → List ℤ) → Answer A → Answer (List ℕ)
+shown values (given a) = given (spaced (values a))
+shown values (refused n) = refused n
 
-abbrev pub values : {A : Type 0} → (A → List ℤ) → Answer A → Answer (List ℤ)
-values show (given a) = given (show a)
-values show (refused n) = refused n
+-- the reply stands in a lent buffer from `at` on, and no other byte of it has changed; 255 bytes hold the longest
+pub record Replied (before : List ℕ) (at : ℕ) (a : Answer (List ℕ)) (after : List ℕ) (end : ℕ) : Type 0 where
+  pub wrote : Wrote before at (replyText a) after end
+  pub short : end ≤ at + 255
+
+-- ---- the values of each kind of answer
+
+abbrev pub noValues : Unit {0} → List ℤ
+noValues u = []
+
+abbrev pub naturalValue : ℕ → List ℤ
+naturalValue n = pos n ∷ []
+
+abbrev pub wholeValue : ℤ → List ℤ
+wholeValue z = z ∷ []
 
 abbrev pub dateValues : IsoDate → List ℤ
 dateValues d = d .year ∷ pos (d .month) ∷ pos (d .day) ∷ []
@@ -38,7 +54,7 @@ timeValues t =
     pos (t .hour) ∷ pos (t .minute) ∷ pos (t .second) ∷ pos (t .millisecond) ∷ pos (t .microsecond) ∷ pos (t .nanosecond) ∷ []
 
 abbrev pub balancedValues : BalancedTime → List ℤ
-balancedValues b = b .days ∷ timeValues (b .time)
+balancedValues b = (b .days ∷ []) ++ timeValues (b .time)
 
 abbrev pub spanValues : TimeDuration → List ℤ
 spanValues d = d .seconds ∷ d .nanoseconds ∷ []
@@ -56,3 +72,6 @@ abbrev pub signNumber : Sign → ℤ
 signNumber S.Negative = negℤ (pos 1)
 signNumber S.Zero = pos 0
 signNumber S.Positive = pos 1
+
+abbrev pub signValue : Sign → List ℤ
+signValue s = signNumber s ∷ []

@@ -1,6 +1,14 @@
-// The answers of the calls as replies.
-use crate::Written;
-use date_duration::DateDuration;
+// The answers of the calls, written into a lent buffer from a place of it on. Each function returns the place after the reply.
+// What an answer is made of is written by `values`, part after part.
+pub mod values;
+
+use crate::inner::values::put_balanced;
+use crate::inner::values::put_date;
+use crate::inner::values::put_date_time;
+use crate::inner::values::put_duration;
+use crate::inner::values::put_record;
+use crate::inner::values::put_span;
+use crate::inner::values::put_time;
 use date_duration::DurationResult;
 use date_duration::Sign;
 use date_duration::SignResult;
@@ -11,319 +19,201 @@ use iso_date::MonthLength;
 use iso_date::YearMonth;
 use iso_date_time::DateTimeResult;
 use iso_date_time::DifferenceResult;
-use iso_date_time::InternalDurationRecord;
-use iso_date_time::IsoDateTime;
 use iso_time::BalanceResult;
-use iso_time::BalancedTime;
-use iso_time::IsoTime;
 use iso_time::SpanResult;
 use iso_time::TimeResult;
 use rounding::Rounded;
-ghost use mathlib.Core.List.{[], _∷_};
-ghost use lib.IntN.{pos};
+use writing::inner::put_byte;
+use writing::inner::put_digits;
+use writing::inner::put_integer;
+use writing::inner::put_natural;
+ghost use mathlib.Core.Path.{_≡_};
+ghost use Prim.Native.Nat.{_+_, _≤_};
+ghost use lib.ListN.{length};
+ghost use Rattle.refusal.specs.Answer.{given, refused};
 ghost use Rattle.iso_date.specs.Paper.{ofMonthLength, ofDay, ofDate, ofLimit};
 ghost use Rattle.date_duration.specs.Paper.{ofDuration, ofSign};
 ghost use Rattle.iso_date_time.specs.Paper.{ofDateTime, ofDifference};
 ghost use Rattle.iso_time.specs.Paper.{ofTime, ofBalance, ofSpan};
 ghost use Rattle.rounding.specs.Paper.{ofRounded};
-ghost use Rattle.replies.specs.Replies.{question, answer, said, values, dateValues, yearMonthValues, timeValues, balancedValues, spanValues, durationValues, signNumber, dateTimeValues, recordValues};
-ghost use Rattle.replies.specs.Meaning.{Says};
+ghost use Rattle.writing.specs.Text.{spaced};
+ghost use Rattle.replies.specs.Replies.{Replied, shown, noValues, naturalValue, wholeValue, dateValues, yearMonthValues, timeValues, balancedValues, spanValues, durationValues, signNumber, signValue, dateTimeValues, recordValues};
 
-// The reply to what is no request.
-pub fn no_request() -> Written
-    ensures { λ r. ⌜ Says r question ⌝ }
-{
-    Written {
-        known: false,
-        number: 0,
-        count: 0,
-        values: [0; 12],
-    }
-}
-
-// A number alone: a refusal, or an answer that has no values.
-pub fn number_alone(number: u8) -> Written
-    ensures { λ r. ⌜ Says r (answer number []) ⌝ }
-{
-    Written {
-        known: true,
-        number,
-        count: 0,
-        values: [0; 12],
-    }
-}
-
-// Answers of one value and of three.
-fn one_value(a: i64) -> Written
-    ensures { λ r. ⌜ Says r (answer 0 (a ∷ [])) ⌝ }
-{
-    Written {
-        known: true,
-        number: 0,
-        count: 1,
-        values: [a, 0, 0, 0, 0, 0, 0, 0, 0, 0, 0, 0],
-    }
-}
-
-fn three_values(a: i64, b: i64, c: i64) -> Written
-    ensures { λ r. ⌜ Says r (answer 0 (a ∷ b ∷ c ∷ [])) ⌝ }
-{
-    Written {
-        known: true,
-        number: 0,
-        count: 3,
-        values: [a, b, c, 0, 0, 0, 0, 0, 0, 0, 0, 0],
-    }
-}
-
-pub fn length_reply(r: MonthLength) -> Written
-    ensures { λ w. ⌜ Says w (said (values (λ n. pos n ∷ []) (ofMonthLength r))) ⌝ }
+pub fn length_reply(out: &mut [u8], at: usize, r: MonthLength) -> usize
+    requires { ⌜ at + 255 ≤ length (now out) ⌝ }
+    ensures { λ e. ⌜ Replied (now (out .entry)) at (shown naturalValue (ofMonthLength r)) (now (out .exit)) e ⌝ }
 {
     match r {
-        MonthLength::Days(n) => one_value(n as i64),
-        MonthLength::Refused(n) => number_alone(n),
+        MonthLength::Days(n) => {
+            let next = put_byte(out, at, b'0');
+            put_natural(out, next, n as u64)
+        }
+        MonthLength::Refused(n) => refusal(out, at, n),
     }
 }
 
-pub fn day_reply(r: DayResult) -> Written
-    ensures { λ w. ⌜ Says w (said (values (λ n. n ∷ []) (ofDay r))) ⌝ }
+pub fn day_reply(out: &mut [u8], at: usize, r: DayResult) -> usize
+    requires { ⌜ at + 255 ≤ length (now out) ⌝ }
+    ensures { λ e. ⌜ Replied (now (out .entry)) at (shown wholeValue (ofDay r)) (now (out .exit)) e ⌝ }
 {
     match r {
-        DayResult::Day(n) => one_value(n),
-        DayResult::Refused(n) => number_alone(n),
+        DayResult::Day(n) => {
+            let next = put_byte(out, at, b'0');
+            put_integer(out, next, n)
+        }
+        DayResult::Refused(n) => refusal(out, at, n),
     }
 }
 
-pub fn date_reply(r: DateResult) -> Written
-    ensures { λ w. ⌜ Says w (said (values dateValues (ofDate r))) ⌝ }
+pub fn date_reply(out: &mut [u8], at: usize, r: DateResult) -> usize
+    requires { ⌜ at + 255 ≤ length (now out) ⌝ }
+    ensures { λ e. ⌜ Replied (now (out .entry)) at (shown dateValues (ofDate r)) (now (out .exit)) e ⌝ }
 {
     match r {
-        DateResult::Date(d) => three_values(d.year as i64, d.month as i64, d.day as i64),
-        DateResult::Refused(n) => number_alone(n),
+        DateResult::Date(d) => {
+            let next = put_byte(out, at, b'0');
+            put_date(out, next, d)
+        }
+        DateResult::Refused(n) => refusal(out, at, n),
     }
 }
 
-pub fn limit_reply(r: LimitResult) -> Written
-    ensures { λ w. ⌜ Says w (said (values (λ u. []) (ofLimit r))) ⌝ }
+pub fn limit_reply(out: &mut [u8], at: usize, r: LimitResult) -> usize
+    requires { ⌜ at + 255 ≤ length (now out) ⌝ }
+    ensures { λ e. ⌜ Replied (now (out .entry)) at (shown noValues (ofLimit r)) (now (out .exit)) e ⌝ }
 {
     match r {
-        LimitResult::Within => number_alone(0),
-        LimitResult::Refused(n) => number_alone(n),
+        LimitResult::Within => put_byte(out, at, b'0'),
+        LimitResult::Refused(n) => refusal(out, at, n),
     }
 }
 
-pub fn year_month_reply(r: YearMonth) -> Written
-    ensures { λ w. ⌜ Says w (answer 0 (yearMonthValues r)) ⌝ }
+pub fn year_month_reply(out: &mut [u8], at: usize, r: YearMonth) -> usize
+    requires { ⌜ at + 255 ≤ length (now out) ⌝ }
+    ensures { λ e. ⌜ Replied (now (out .entry)) at (given (spaced (yearMonthValues r))) (now (out .exit)) e ⌝ }
 {
-    Written {
-        known: true,
-        number: 0,
-        count: 2,
-        values: [r.year as i64, r.month as i64, 0, 0, 0, 0, 0, 0, 0, 0, 0, 0],
-    }
+    let next = put_byte(out, at, b'0');
+    let month = put_integer(out, next, r.year as i64);
+    put_natural(out, month, r.month as u64)
 }
 
-fn two_values(a: i64, b: i64) -> Written
-    ensures { λ r. ⌜ Says r (answer 0 (a ∷ b ∷ [])) ⌝ }
-{
-    Written {
-        known: true,
-        number: 0,
-        count: 2,
-        values: [a, b, 0, 0, 0, 0, 0, 0, 0, 0, 0, 0],
-    }
-}
-
-fn time_values(t: IsoTime) -> Written
-    ensures { λ r. ⌜ Says r (answer 0 (timeValues t)) ⌝ }
-{
-    Written {
-        known: true,
-        number: 0,
-        count: 6,
-        values: [
-            t.hour as i64,
-            t.minute as i64,
-            t.second as i64,
-            t.millisecond as i64,
-            t.microsecond as i64,
-            t.nanosecond as i64,
-            0,
-            0,
-            0,
-            0,
-            0,
-            0,
-        ],
-    }
-}
-
-fn balanced_values(b: BalancedTime) -> Written
-    ensures { λ r. ⌜ Says r (answer 0 (balancedValues b)) ⌝ }
-{
-    let t = b.time;
-    Written {
-        known: true,
-        number: 0,
-        count: 7,
-        values: [
-            b.days,
-            t.hour as i64,
-            t.minute as i64,
-            t.second as i64,
-            t.millisecond as i64,
-            t.microsecond as i64,
-            t.nanosecond as i64,
-            0,
-            0,
-            0,
-            0,
-            0,
-        ],
-    }
-}
-
-pub fn time_reply(r: TimeResult) -> Written
-    ensures { λ w. ⌜ Says w (said (values timeValues (ofTime r))) ⌝ }
+pub fn time_reply(out: &mut [u8], at: usize, r: TimeResult) -> usize
+    requires { ⌜ at + 255 ≤ length (now out) ⌝ }
+    ensures { λ e. ⌜ Replied (now (out .entry)) at (shown timeValues (ofTime r)) (now (out .exit)) e ⌝ }
 {
     match r {
-        TimeResult::Time(t) => time_values(t),
-        TimeResult::Refused(n) => number_alone(n),
+        TimeResult::Time(t) => {
+            let next = put_byte(out, at, b'0');
+            put_time(out, next, t)
+        }
+        TimeResult::Refused(n) => refusal(out, at, n),
     }
 }
 
-pub fn balance_reply(r: BalanceResult) -> Written
-    ensures { λ w. ⌜ Says w (said (values balancedValues (ofBalance r))) ⌝ }
+pub fn balance_reply(out: &mut [u8], at: usize, r: BalanceResult) -> usize
+    requires { ⌜ at + 255 ≤ length (now out) ⌝ }
+    ensures { λ e. ⌜ Replied (now (out .entry)) at (shown balancedValues (ofBalance r)) (now (out .exit)) e ⌝ }
 {
     match r {
-        BalanceResult::Balanced(b) => balanced_values(b),
-        BalanceResult::Refused(n) => number_alone(n),
+        BalanceResult::Balanced(b) => {
+            let next = put_byte(out, at, b'0');
+            put_balanced(out, next, b)
+        }
+        BalanceResult::Refused(n) => refusal(out, at, n),
     }
 }
 
-pub fn span_reply(r: SpanResult) -> Written
-    ensures { λ w. ⌜ Says w (said (values spanValues (ofSpan r))) ⌝ }
+pub fn span_reply(out: &mut [u8], at: usize, r: SpanResult) -> usize
+    requires { ⌜ at + 255 ≤ length (now out) ⌝ }
+    ensures { λ e. ⌜ Replied (now (out .entry)) at (shown spanValues (ofSpan r)) (now (out .exit)) e ⌝ }
 {
     match r {
-        SpanResult::Span(d) => two_values(d.seconds, d.nanoseconds),
-        SpanResult::Refused(n) => number_alone(n),
+        SpanResult::Span(d) => {
+            let next = put_byte(out, at, b'0');
+            put_span(out, next, d)
+        }
+        SpanResult::Refused(n) => refusal(out, at, n),
     }
 }
 
-pub fn rounded_reply(r: Rounded) -> Written
-    ensures { λ w. ⌜ Says w (said (values (λ n. n ∷ []) (ofRounded r))) ⌝ }
+pub fn rounded_reply(out: &mut [u8], at: usize, r: Rounded) -> usize
+    requires { ⌜ at + 255 ≤ length (now out) ⌝ }
+    ensures { λ e. ⌜ Replied (now (out .entry)) at (shown wholeValue (ofRounded r)) (now (out .exit)) e ⌝ }
 {
     match r {
-        Rounded::Number(n) => one_value(n),
-        Rounded::Refused(n) => number_alone(n),
+        Rounded::Number(n) => {
+            let next = put_byte(out, at, b'0');
+            put_integer(out, next, n)
+        }
+        Rounded::Refused(n) => refusal(out, at, n),
     }
 }
 
-fn duration_values(d: DateDuration) -> Written
-    ensures { λ r. ⌜ Says r (answer 0 (durationValues d)) ⌝ }
-{
-    Written {
-        known: true,
-        number: 0,
-        count: 4,
-        values: [d.years, d.months, d.weeks, d.days, 0, 0, 0, 0, 0, 0, 0, 0],
-    }
-}
-
-pub fn duration_reply(r: DurationResult) -> Written
-    ensures { λ w. ⌜ Says w (said (values durationValues (ofDuration r))) ⌝ }
+pub fn duration_reply(out: &mut [u8], at: usize, r: DurationResult) -> usize
+    requires { ⌜ at + 255 ≤ length (now out) ⌝ }
+    ensures { λ e. ⌜ Replied (now (out .entry)) at (shown durationValues (ofDuration r)) (now (out .exit)) e ⌝ }
 {
     match r {
-        DurationResult::Duration(d) => duration_values(d),
-        DurationResult::Refused(n) => number_alone(n),
+        DurationResult::Duration(d) => {
+            let next = put_byte(out, at, b'0');
+            put_duration(out, next, d)
+        }
+        DurationResult::Refused(n) => refusal(out, at, n),
     }
 }
 
-fn sign_value(s: Sign) -> Written
-    ensures { λ r. ⌜ Says r (answer 0 (signNumber s ∷ [])) ⌝ }
+pub fn sign_reply(out: &mut [u8], at: usize, r: SignResult) -> usize
+    requires { ⌜ at + 255 ≤ length (now out) ⌝ }
+    ensures { λ e. ⌜ Replied (now (out .entry)) at (shown signValue (ofSign r)) (now (out .exit)) e ⌝ }
+{
+    match r {
+        SignResult::Sign(s) => {
+            let next = put_byte(out, at, b'0');
+            put_integer(out, next, sign_number(s))
+        }
+        SignResult::Refused(n) => refusal(out, at, n),
+    }
+}
+
+pub fn date_time_reply(out: &mut [u8], at: usize, r: DateTimeResult) -> usize
+    requires { ⌜ at + 255 ≤ length (now out) ⌝ }
+    ensures { λ e. ⌜ Replied (now (out .entry)) at (shown dateTimeValues (ofDateTime r)) (now (out .exit)) e ⌝ }
+{
+    match r {
+        DateTimeResult::DateTime(d) => {
+            let next = put_byte(out, at, b'0');
+            put_date_time(out, next, d)
+        }
+        DateTimeResult::Refused(n) => refusal(out, at, n),
+    }
+}
+
+pub fn record_reply(out: &mut [u8], at: usize, r: DifferenceResult) -> usize
+    requires { ⌜ at + 255 ≤ length (now out) ⌝ }
+    ensures { λ e. ⌜ Replied (now (out .entry)) at (shown recordValues (ofDifference r)) (now (out .exit)) e ⌝ }
+{
+    match r {
+        DifferenceResult::Difference(d) => {
+            let next = put_byte(out, at, b'0');
+            put_record(out, next, d)
+        }
+        DifferenceResult::Refused(n) => refusal(out, at, n),
+    }
+}
+
+fn refusal(out: &mut [u8], at: usize, n: u8) -> usize
+    requires { ⌜ at + 255 ≤ length (now out) ⌝ }
+    ensures { λ e. ⌜ Replied (now (out .entry)) at (refused n) (now (out .exit)) e ⌝ }
+{
+    put_digits(out, at, n as u64)
+}
+
+fn sign_number(s: Sign) -> i64
+    ensures { λ r. ⌜ r ≡ signNumber s ⌝ }
 {
     match s {
-        Sign::Negative => one_value(-1),
-        Sign::Zero => one_value(0),
-        Sign::Positive => one_value(1),
-    }
-}
-
-pub fn sign_reply(r: SignResult) -> Written
-    ensures { λ w. ⌜ Says w (said (values (λ s. signNumber s ∷ []) (ofSign r))) ⌝ }
-{
-    match r {
-        SignResult::Sign(s) => sign_value(s),
-        SignResult::Refused(n) => number_alone(n),
-    }
-}
-
-fn date_time_values(r: IsoDateTime) -> Written
-    ensures { λ w. ⌜ Says w (answer 0 (dateTimeValues r)) ⌝ }
-{
-    let d = r.date;
-    let t = r.time;
-    Written {
-        known: true,
-        number: 0,
-        count: 9,
-        values: [
-            d.year as i64,
-            d.month as i64,
-            d.day as i64,
-            t.hour as i64,
-            t.minute as i64,
-            t.second as i64,
-            t.millisecond as i64,
-            t.microsecond as i64,
-            t.nanosecond as i64,
-            0,
-            0,
-            0,
-        ],
-    }
-}
-
-pub fn date_time_reply(r: DateTimeResult) -> Written
-    ensures { λ w. ⌜ Says w (said (values dateTimeValues (ofDateTime r))) ⌝ }
-{
-    match r {
-        DateTimeResult::DateTime(d) => date_time_values(d),
-        DateTimeResult::Refused(n) => number_alone(n),
-    }
-}
-
-fn record_values(r: InternalDurationRecord) -> Written
-    ensures { λ w. ⌜ Says w (answer 0 (recordValues r)) ⌝ }
-{
-    let d = r.date;
-    let t = r.time;
-    Written {
-        known: true,
-        number: 0,
-        count: 6,
-        values: [
-            d.years,
-            d.months,
-            d.weeks,
-            d.days,
-            t.seconds,
-            t.nanoseconds,
-            0,
-            0,
-            0,
-            0,
-            0,
-            0,
-        ],
-    }
-}
-
-pub fn record_reply(r: DifferenceResult) -> Written
-    ensures { λ w. ⌜ Says w (said (values recordValues (ofDifference r))) ⌝ }
-{
-    match r {
-        DifferenceResult::Difference(d) => record_values(d),
-        DifferenceResult::Refused(n) => number_alone(n),
+        Sign::Negative => -1,
+        Sign::Zero => 0,
+        Sign::Positive => 1,
     }
 }

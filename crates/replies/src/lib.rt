@@ -1,10 +1,2 @@
-// Replies as they are to be written: an answer with its values, a refusal, or no request.
+// The answers of the calls as replies: an answer's 0 with its values, or a refusal's number.
 pub mod inner;
-
-// A reply: an answer's number and the first `count` of the values, or no request at all.
-pub struct Written {
-    pub known: bool,
-    pub number: u8,
-    pub count: usize,
-    pub values: [i64; 12],
-}

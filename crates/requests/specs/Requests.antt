@@ -1,34 +1,37 @@
--- The reply to a line, and the line that answers it.
+-- The line that answers a line.
 use Prim.Native.Nat.{ℕ}
 use mathlib.Core.Bool.{cond}
-use mathlib.Core.List.{List, [], _∷_}
-use lib.ListN.{getD, drop}
+use mathlib.Core.List.{List, [], _∷_, _++_}
+use lib.Dec.{leb}
+use lib.ListN.{length}
 use lib.IntN.{ℤ}
 use Rattle.refusal.specs.Answer.{Answer}
-use Rattle.lines.specs.Text.{fields, newline}
-use Rattle.writing.specs.Text.{answerText, questionText}
-use Rattle.calls.specs.Names.{everyCall, callIn, isKnown}
-use Rattle.calls.specs.declared.Call.{Call}
-use Rattle.numbers.specs.Kinds.{Arguments, these, noArguments, arguments}
-use Rattle.replies.specs.Replies.{Reply, question, answer, said}
-use Rattle.evaluators.specs.Calls.{kindsOf, meaningOf}
+use Rattle.lines.specs.Text.{word, rest, sameBytes, questionMark, newline}
+use Rattle.parameters.specs.Kinds.{Arguments, these, noArguments, arguments}
+use Rattle.replies.specs.Replies.{replyText}
+use Rattle.calls.specs.Table.{Row, calls, bytes}
 
-abbrev pub replyWith : (List ℤ → Answer (List ℤ)) → Arguments → Reply
-replyWith meaning noArguments = question
-replyWith meaning (these zs) = said (meaning zs)
+-- what answers a line that is no request
+abbrev pub question : List ℕ
+question = questionMark ∷ []
 
-abbrev pub replyText : Reply → List ℕ
-replyText question = questionText
-replyText (answer n vs) = answerText n vs
+abbrev pub replyWith : (List ℤ → Answer (List ℕ)) → Arguments → List ℕ
+replyWith answers noArguments = question
+replyWith answers (these zs) = replyText (answers zs)
 
-unfoldable pub replyOf : Call → List (List ℕ) → Reply
-replyOf c numbers = cond (isKnown c) (replyWith (meaningOf c) (arguments (kindsOf c) numbers)) question
+-- the call that the first word names answers to the numbers that follow
+unfoldable pub replyBy : List Row → List ℕ → List ℕ
+replyBy [] line = question
+replyBy (r ∷ rs) line = cond (sameBytes (word line) (bytes (r .name))) (replyWith (r .answers) (arguments (r .takes) (rest line))) (replyBy rs line)
 
--- the first field is the name, the others are the numbers
-unfoldable pub replyTo : List ℕ → Reply
-replyTo line = replyOf (callIn everyCall (getD (fields line) 0 [])) (drop 1 (fields line))
+-- a longer line is no request
+abbrev pub lineRoom : ℕ
+lineRoom = 1000
 
--- the line that answers a line: an empty one for an empty one
-unfoldable pub responseTo : List ℕ → List ℕ
-responseTo [] = newline ∷ []
-responseTo (b ∷ bs) = replyText (replyTo (b ∷ bs))
+unfoldable pub replyTo : List ℕ → List ℕ
+replyTo [] = []
+replyTo (b ∷ bs) = cond (leb (length (b ∷ bs)) lineRoom) (replyBy calls (b ∷ bs)) question
+
+-- an empty line is answered by an empty line
+abbrev pub responseTo : List ℕ → List ℕ
+responseTo line = replyTo line ++ (newline ∷ [])

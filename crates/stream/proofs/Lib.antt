@@ -1,2 +1,1 @@
-pub mod LongLines
 pub mod Stream

@@ -1,14 +1,14 @@
 -- An input of lines: what is answered while its bytes are taken one after another, and what the code keeps from byte to byte.
-use Prim.Native.Nat.{ℕ, _≤_, _<_}
+use Prim.Native.Nat.{ℕ, _+_, _≤_, _<_}
 use mathlib.Core.Path.{_≡_}
 use mathlib.Core.Bool.{Bool, true, false, cond}
 use mathlib.Core.List.{List, [], _∷_, _++_}
-use lib.Dec.{eqb}
-use lib.ListN.{length, take}
+use lib.Dec.{eqb, ltb}
+use lib.ListN.{length, take, set}
 use lib.Seq.{slice}
 use Rattle.lines.specs.Text.{newline}
 use Rattle.writing.specs.Wrote.{Wrote}
-use Rattle.requests.specs.Requests.{responseTo}
+use Rattle.requests.specs.Requests.{responseTo, lineRoom}
 use Rattle.stream.specs.declared.inner.Progress.{Progress}
 
 -- what is written while bytes are taken, after `pending` was read of a line that has not ended
@@ -29,24 +29,36 @@ lastAnswer (b ∷ bs) = responseTo (b ∷ bs)
 abbrev pub outputOf : List ℕ → List ℕ
 outputOf input = answered [] input ++ lastAnswer (pendingAfter [] input)
 
--- ---- what is kept from byte to byte
+-- ---- what is kept of a line that has not ended: the line buffer, how much of it is the line's, and whether the line outgrew it
 
--- the room of the line buffer; no request is longer
-abbrev pub lineRoom : ℕ
-lineRoom = 512
+pub record Kept : Type 0 where
+  pub line : List ℕ
+  pub have : ℕ
+  pub over : Bool
+
+abbrev pub kept : List ℕ → ℕ → Bool → Kept
+kept line have over = record { line = line; have = have; over = over }
+
+-- what is pending stands at the start of the line buffer, or is longer than any request
+pub record Holds (pending : List ℕ) (k : Kept) : Type 0 where
+  pub whole : k .over ≡ false → pending ≡ take (k .have) (k .line)
+  pub longer : k .over ≡ true → lineRoom < length pending
+
+-- a byte more: a newline leaves nothing pending, and another byte is stored while there is room; no other byte of the buffer changes
+unfoldable pub keptWith : Kept → ℕ → Kept
+keptWith k b =
+    cond (eqb b newline) (kept (k .line) 0 false)
+    (cond (ltb (k .have) (length (k .line))) (kept (set (k .line) (k .have) b) (k .have + 1) (k .over)) (kept (k .line) (k .have) true))
+
+unfoldable pub keptAfter : Kept → List ℕ → Kept
+keptAfter k [] = k
+keptAfter k (b ∷ bs) = keptAfter (keptWith k b) bs
+
+-- ---- a block that is taken in parts
 
 -- the room that the longest response takes
 abbrev pub responseRoom : ℕ
 responseRoom = 256
-
--- what is pending stands at the start of the line buffer, or is longer than that
-pub record Holds (pending line : List ℕ) (have : ℕ) (over : Bool) : Type 0 where
-  pub whole : over ≡ false → pending ≡ take have line
-  pub longer : over ≡ true → lineRoom < length pending
-
--- whatever was pending, what is pending after the bytes is kept
-pub record Keeps (bytes line : List ℕ) (have : ℕ) (over : Bool) (line′ : List ℕ) (have′ : ℕ) (over′ : Bool) : Type 0 where
-  pub holds : (pending : List ℕ) → Holds pending line have over → Holds (pendingAfter pending bytes) line′ have′ over′
 
 -- the state lies inside the block, the line buffer and the output buffer
 pub record Inside (block line out : List ℕ) (s : Progress) : Type 0 where
@@ -55,10 +67,22 @@ pub record Inside (block line out : List ℕ) (s : Progress) : Type 0 where
   pub have-inside : s .have ≤ lineRoom
   pub filled-inside : s .filled ≤ length out
 
--- the bytes of the block between two states were taken: whatever was pending, what was written answers them, and what is pending then is kept
+-- before each byte that was taken there was room for one more response
+abbrev pub Roomy : List ℕ → List ℕ → List ℕ → Progress → ℕ → Type 0
+Roomy pending block out s end =
+    (m : ℕ) → s .at ≤ m → m < end → s .filled + length (answered pending (slice (s .at) m block)) + responseRoom ≤ length out
+
+-- the bytes of the block between two states were taken: whatever was pending, what was written answers them
 pub record Took (block line out : List ℕ) (s : Progress) (line′ out′ : List ℕ) (r : Progress) : Type 0 where
   pub onward : s .at ≤ r .at
   pub inside : Inside block line′ out′ r
-  pub wrote : (pending : List ℕ) → Holds pending line (s .have) (s .over) →
+  pub keeps : kept line′ (r .have) (r .over) ≡ keptAfter (kept line (s .have) (s .over)) (slice (s .at) (r .at) block)
+  pub wrote : (pending : List ℕ) → Holds pending (kept line (s .have) (s .over)) →
       Wrote out (s .filled) (answered pending (slice (s .at) (r .at) block)) out′ (r .filled)
-  pub keeps : Keeps (slice (s .at) (r .at) block) line (s .have) (s .over) line′ (r .have) (r .over)
+  pub roomy : (pending : List ℕ) → Holds pending (kept line (s .have) (s .over)) → Roomy pending block out s (r .at)
+
+-- ---- an input that is taken in parts, each from what the one before it left: its bytes so far, those written, and what is kept
+pub data Taken : List ℕ → List ℕ → Kept → Type 0 where
+  begun : (line : List ℕ) → Taken [] [] (kept line 0 false)
+  more : {input output block line out line′ out′ : List ℕ} {s r : Progress} → Taken input output (kept line (s .have) (s .over)) → Inside block line out s →
+      Took block line out s line′ out′ r → Taken (input ++ slice (s .at) (r .at) block) (output ++ slice (s .filled) (r .filled) out′) (kept line′ (r .have) (r .over))

@@ -1,4 +1,4 @@
 pub mod Writing
 pub mod Digits
-pub mod Answers
+pub mod Values
 pub mod ReadBack

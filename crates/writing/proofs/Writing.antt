@@ -6,7 +6,7 @@ use native.Mathlib.Omega.{arith}
 use mathlib.Core.Path.{_≡_, refl, sym, ap, _∙_}
 use mathlib.Core.List.{List, [], _∷_, _++_, append-assoc, append-nil}
 use lib.ListN.{length, take, drop, set, length-append, length-take, length-drop, length-set, take-append-drop}
-use lib.Seq.{take-set-le, drop-set-lt, drop-cons, getD-set-same, take-at, length-take-le}
+use lib.Seq.{take-set-le, drop-set-lt, drop-cons, drop-drop, getD-set-same, take-at, drop-at, length-take-le}
 use Rattle.writing.specs.Wrote.{Wrote}
 
 -- the buffer with a text at its place
@@ -29,9 +29,11 @@ pub placed-wrote : (l l′ : List ℕ) (at : ℕ) (text : List ℕ) (end : ℕ) 
 placed-wrote l l′ at text end room e f =
     let n : length (take at l) ≡ at = length-take-le at l (omega arith) in
     let m : length (take at l ++ text) ≡ end = length-append (take at l) text ∙ ap (λ (k : ℕ). k + length text) n ∙ sym f in
+    let split : l′ ≡ (take at l ++ text) ++ drop (at + length text) l = e ∙ sym (append-assoc (take at l) text (drop (at + length text) l)) in
     record {
       ends = f;
-      holds = ap (take end) (e ∙ sym (append-assoc (take at l) text (drop (at + length text) l))) ∙ take-at (take at l ++ text) (drop (at + length text) l) end m;
+      holds = ap (take end) split ∙ take-at (take at l ++ text) (drop (at + length text) l) end m;
+      keeps = ap (drop end) split ∙ drop-at (take at l ++ text) (drop (at + length text) l) end m ∙ ap (λ (k : ℕ). drop k l) (sym f);
       sized = ap length e ∙ (simp (length-append, length-drop, n) (omega arith));
     }
 
@@ -47,13 +49,25 @@ after {a} {b} {c} {s} {t} {at} {m} {n} v w =
     record {
       ends = w .ends ∙ (simp length-append (omega (arith, v .ends)));
       holds = w .holds ∙ ap (λ (l : List ℕ). l ++ t) (v .holds) ∙ append-assoc (take at a) s t;
+      keeps = w .keeps ∙ ap (λ (k : ℕ). drop k b) (w .ends) ∙ sym (drop-drop (length t) m b) ∙ ap (drop (length t)) (v .keeps) ∙ drop-drop (length t) m a ∙ ap (λ (k : ℕ). drop k a) (sym (w .ends));
       sized = w .sized ∙ v .sized;
     }
 
 pub nothing : (l : List ℕ) (at : ℕ) → Wrote l at [] l at
-nothing l at = record { ends = sym (add-zero at); holds = sym (append-nil (take at l)); sized = refl }
+nothing l at = record { ends = sym (add-zero at); holds = sym (append-nil (take at l)); keeps = refl; sized = refl }
 
 -- what was written ends within the buffer
 pub ends-inside : {before text after : List ℕ} {at end : ℕ} → at ≤ length before → Wrote before at text after end → end ≤ length after
 ends-inside {before} {text} {after} {at} {end} h w =
     omega (arith, w .ends, simp (length-append, length-take) at (ap length (w .holds)))
+
+pub wrote-as : {before after : List ℕ} {at end : ℕ} {a b : List ℕ} → Wrote before at a after end → a ≡ b → Wrote before at b after end
+wrote-as h e = rw e at h
+
+-- two results that this allows are one
+pub wrote-once : {before text after after′ : List ℕ} {at end end′ : ℕ} → Wrote before at text after end → Wrote before at text after′ end′ → (after ≡ after′) × (end ≡ end′)
+wrote-once {before} {text} {after} {after′} {at} {end} {end′} v w =
+    let e : end ≡ end′ = v .ends ∙ sym (w .ends) in
+    let h : take end after ≡ take end after′ = v .holds ∙ sym (rw (← e) at (w .holds)) in
+    let k : drop end after ≡ drop end after′ = v .keeps ∙ sym (rw (← e) at (w .keeps)) in
+    (sym (take-append-drop end after) ∙ rw (h, k) (take-append-drop end after′), e)

@@ -1,51 +1,14 @@
-// Answers written into a lent buffer, from a place of it on. Each function that writes returns the place after what it wrote.
+// Numbers written into a lent buffer, from a place of it on. Each function returns the place after what it wrote.
 use whole::inner::above;
 use whole::inner::below;
 ghost use mathlib.Core.Path.{_≡_};
 ghost use mathlib.Core.List.{[], _∷_};
 ghost use Prim.Native.Nat.{_+_, _≤_, _<_};
-ghost use lib.ListN.{length, take};
-ghost use Rattle.writing.specs.Text.{digits, decimal, answerText, questionText};
+ghost use lib.IntN.{pos};
+ghost use lib.ListN.{length};
+ghost use Rattle.lines.specs.Text.{space};
+ghost use Rattle.writing.specs.Text.{digits, decimal};
 ghost use Rattle.writing.specs.Wrote.{Wrote};
-
-// Writes an answer's line: its number, the first `count` of the values, each after a space, and a newline.
-// 256 bytes hold the longest: 3 for the number, 21 for each of twelve values, and the newline.
-pub fn put_answer(out: &mut [u8], at: usize, number: u8, count: usize, values: [i64; 12]) -> usize
-    requires { ⌜ (count ≤ 12) × (at + 256 ≤ length (now out)) ⌝ }
-    ensures { λ r. ⌜ Wrote (now (out .entry)) at (answerText number (take count values)) (now (out .exit)) r ⌝ }
-{
-    let mut next = put_digits(out, at, number as u64);
-    let mut k = 0;
-    while k < count {
-        let start = put_byte(out, next, b' ');
-        next = put_number(out, start, values[k]);
-        k += 1;
-    }
-    put_byte(out, next, b'\n')
-}
-
-// Writes the line for what is no request: `?` and a newline.
-// Two bytes hold it.
-pub fn put_question(out: &mut [u8], at: usize) -> usize
-    requires { ⌜ at + 2 ≤ length (now out) ⌝ }
-    ensures { λ r. ⌜ Wrote (now (out .entry)) at questionText (now (out .exit)) r ⌝ }
-{
-    let next = put_byte(out, at, b'?');
-    put_byte(out, next, b'\n')
-}
-
-// Writes a number in its one shortest form, with `-` before a negative one.
-// Twenty bytes hold every i64; -2^63 takes them all.
-pub fn put_number(out: &mut [u8], at: usize, z: i64) -> usize
-    requires { ⌜ at + 20 ≤ length (now out) ⌝ }
-    ensures { λ r. ⌜ Wrote (now (out .entry)) at (decimal z) (now (out .exit)) r ⌝ }
-{
-    if z < 0 {
-        let next = put_byte(out, at, b'-');
-        return put_digits(out, next, below(z) + 1);
-    }
-    put_digits(out, at, above(z))
-}
 
 // Writes one byte.
 // A text of one's own is written byte by byte.
@@ -57,8 +20,32 @@ pub fn put_byte(out: &mut [u8], at: usize, b: u8) -> usize
     at + 1
 }
 
+// Writes a value: a space, and a whole number in its one shortest form.
+// 21 bytes hold every i64 so; -2^63 takes them all.
+pub fn put_integer(out: &mut [u8], at: usize, z: i64) -> usize
+    requires { ⌜ at + 21 ≤ length (now out) ⌝ }
+    ensures { λ r. ⌜ Wrote (now (out .entry)) at (space ∷ decimal z) (now (out .exit)) r × (r ≤ at + 21) ⌝ }
+{
+    let next = put_byte(out, at, b' ');
+    if z < 0 {
+        let start = put_byte(out, next, b'-');
+        return put_digits(out, start, below(z) + 1);
+    }
+    put_digits(out, next, above(z))
+}
+
+// Writes a value that is never negative: a space, and a natural.
+// 21 bytes hold every u64 so.
+pub fn put_natural(out: &mut [u8], at: usize, n: u64) -> usize
+    requires { ⌜ at + 21 ≤ length (now out) ⌝ }
+    ensures { λ r. ⌜ Wrote (now (out .entry)) at (space ∷ decimal (pos n)) (now (out .exit)) r × (r ≤ at + 21) ⌝ }
+{
+    let start = put_byte(out, at, b' ');
+    put_digits(out, start, n)
+}
+
 // Writes n, from its last digit to its first, in just as much room as it takes.
-fn put_digits(out: &mut [u8], at: usize, n: u64) -> usize
+pub fn put_digits(out: &mut [u8], at: usize, n: u64) -> usize
     requires { ⌜ at + length (digits 20 n) ≤ length (now out) ⌝ }
     ensures { λ r. ⌜ Wrote (now (out .entry)) at (digits 20 n) (now (out .exit)) r ⌝ }
 {

@@ -1,2 +1,2 @@
-// Answers written into a lent buffer.
+// Numbers written into a lent buffer.
 pub mod inner;

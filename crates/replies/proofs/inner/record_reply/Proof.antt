@@ -1,40 +1,29 @@
--- The values of an answer, or a refusal's number.
+-- A 0 and the values of an internal duration record, or a refusal's number.
 use borrow.Author.Needs.{needs}
-use mathlib.Core.Path.{sym, ap}
-use Rattle.iso_date_time.specs.declared.DifferenceResult.{DifferenceResult}
-use Rattle.iso_date_time.specs.Paper.{ofDifference}
-use Rattle.replies.specs.Replies.{said, values, recordValues}
-use Rattle.replies.proofs.Laws.{says-as}
+use native.Mathlib.Omega.{arith}
+use Rattle.replies.proofs.Laws.{answered}
 use Rattle.replies.proofs.inner.record_reply.Statement.{statement}
 use Rattle.replies.proofs.inner.record_reply.Tie as tie
 
-enum-known-r : tie.Need-enum-known-r
-enum-known-r c = search needs
-
-record-values-requires : tie.Need-record-values-requires
-record-values-requires c κs = search needs
-
-enum-known-r-2 : tie.Need-enum-known-r-2
-enum-known-r-2 c = search needs
-
-number-alone-requires : tie.Need-number-alone-requires
-number-alone-requires c κs = search needs
-
 returns : tie.Need-returns
 returns c =
-    says-as (c .record-values .ensures) (ap (λ (r : DifferenceResult). said (values recordValues (ofDifference r))) (sym (c .before .before .r .given .1)))
+    let d = c .before .before in
+    let zero = d .before .before .before .before in
+    rw (zero .before .before .before .r .given .1) (answered (zero .put-byte .ensures) (d .put-record .ensures .0) (omega arith))
 
 returns-2 : tie.Need-returns-2
-returns-2 c =
-    says-as (c .number-alone .ensures) (ap (λ (r : DifferenceResult). said (values recordValues (ofDifference r))) (sym (c .before .before .r2 .given .1)))
+returns-2 c = rw (c .before .before .before .before .before .r2 .given .1) (c .before .before .refusal .ensures)
 
 pub record-reply-spec : {M : Type 1} → statement M
 record-reply-spec =
     tie.close
     (tie.spec
-    enum-known-r
-    record-values-requires
-    enum-known-r-2
-    number-alone-requires
+    (λ c. search needs)
+    (λ c κs. search needs)
+    (λ c κs. search needs)
+    (λ c. search needs)
+    (λ c κs. search needs)
+    (λ c. search needs)
     returns
+    (λ c. search needs)
     returns-2)

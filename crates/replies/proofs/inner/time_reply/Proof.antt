@@ -1,38 +1,29 @@
--- The values of an answer, or a refusal's number.
+-- A 0 and the values of a time, or a refusal's number.
 use borrow.Author.Needs.{needs}
-use mathlib.Core.Path.{sym, ap}
-use Rattle.iso_time.specs.declared.TimeResult.{TimeResult}
-use Rattle.iso_time.specs.Paper.{ofTime}
-use Rattle.replies.specs.Replies.{said, values, timeValues}
-use Rattle.replies.proofs.Laws.{says-as}
+use native.Mathlib.Omega.{arith}
+use Rattle.replies.proofs.Laws.{answered}
 use Rattle.replies.proofs.inner.time_reply.Statement.{statement}
 use Rattle.replies.proofs.inner.time_reply.Tie as tie
 
-enum-known-r : tie.Need-enum-known-r
-enum-known-r c = search needs
-
-time-values-requires : tie.Need-time-values-requires
-time-values-requires c κs = search needs
-
-enum-known-r-2 : tie.Need-enum-known-r-2
-enum-known-r-2 c = search needs
-
-number-alone-requires : tie.Need-number-alone-requires
-number-alone-requires c κs = search needs
-
 returns : tie.Need-returns
-returns c = says-as (c .time-values .ensures) (ap (λ (r : TimeResult). said (values timeValues (ofTime r))) (sym (c .before .before .r .given .1)))
+returns c =
+    let d = c .before .before in
+    let zero = d .before .before .before .before in
+    rw (zero .before .before .before .r .given .1) (answered (zero .put-byte .ensures) (d .put-time .ensures .0) (omega arith))
 
 returns-2 : tie.Need-returns-2
-returns-2 c = says-as (c .number-alone .ensures) (ap (λ (r : TimeResult). said (values timeValues (ofTime r))) (sym (c .before .before .r2 .given .1)))
+returns-2 c = rw (c .before .before .before .before .before .r2 .given .1) (c .before .before .refusal .ensures)
 
 pub time-reply-spec : {M : Type 1} → statement M
 time-reply-spec =
     tie.close
     (tie.spec
-    enum-known-r
-    time-values-requires
-    enum-known-r-2
-    number-alone-requires
+    (λ c. search needs)
+    (λ c κs. search needs)
+    (λ c κs. search needs)
+    (λ c. search needs)
+    (λ c κs. search needs)
+    (λ c. search needs)
     returns
+    (λ c. search needs)
     returns-2)

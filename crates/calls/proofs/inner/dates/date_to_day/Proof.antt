@@ -1,0 +1,20 @@
+-- The numbers as the call's parameters, the call, and its answer as the reply.
+use borrow.Author.Needs.{needs}
+use Rattle.parameters.proofs.Laws.{holds-at}
+use Rattle.replies.proofs.Laws.{replied-as}
+use Rattle.calls.proofs.inner.dates.date_to_day.Statement.{statement}
+use Rattle.calls.proofs.inner.dates.date_to_day.Tie as tie
+
+returns : tie.Need-returns
+returns c =
+    replied-as (c .before .before .day-reply .ensures) (cc)
+
+pub date-to-day-spec : {M : Type 1} → statement M
+date-to-day-spec =
+    tie.close
+    (tie.spec
+    (λ c κs. holds-at 3 (c .before .pre .numbers))
+    (λ c κs. search needs)
+    (λ c κs. search needs)
+    (λ c. search needs)
+    returns)

@@ -1,2 +1,0 @@
-// The calls, each on the numbers of a request.
-pub mod inner;
