@@ -70,11 +70,12 @@ fn take_byte(table: &[u8], block: &[u8], line: &mut [u8], out: &mut [u8], s: Pro
     let b = block[at];
     let next = at + 1;
     if b == b'\n' {
+        let filled = end_line(table, line, out, s);
         return Progress {
             at: next,
             have: 0,
             over: false,
-            filled: end_line(table, line, out, s),
+            filled,
         };
     }
     if have < line.len() {
