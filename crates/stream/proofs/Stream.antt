@@ -17,7 +17,7 @@ use Rattle.lines.specs.Text.{newline}
 use Rattle.writing.specs.Wrote.{Wrote}
 use Rattle.writing.proofs.Writing.{after, nothing, wrote-once}
 use Rattle.requests.specs.Requests.{replyTo, responseTo, question, lineRoom}
-use Rattle.stream.specs.Stream.{answered, pendingAfter, lastAnswer, outputOf, responseRoom, Kept, kept, keptWith, keptAfter, Holds, Inside, Roomy, Took, Taken, begun, more}
+use Rattle.stream.specs.Stream.{answered, pendingAfter, lastAnswer, outputOf, responseRoom, Kept, kept, keptWith, keptAfter, Holds, Inside, Roomy, Stops, Took, Taken, begun, more}
 use Rattle.stream.specs.declared.inner.Progress.{Progress}
 
 -- ---- bytes in two parts
@@ -246,9 +246,6 @@ module _ {block line out : List ℕ} {s : Progress} (w : Inside block line out s
       }
 
 -- ---- where the taking stops
-
-abbrev Stops : List ℕ → List ℕ → Progress → Type 0
-Stops block out r = r .at < length block → length out < r .filled + responseRoom
 
 module _ {block line out : List ℕ} {s : Progress} where
   filled-as : {line′ out′ : List ℕ} {r : Progress} → Took block line out s line′ out′ r →

@@ -72,6 +72,10 @@ abbrev pub Roomy : List ℕ → List ℕ → List ℕ → Progress → ℕ → T
 Roomy pending block out s end =
     (m : ℕ) → s .at ≤ m → m < end → s .filled + length (answered pending (slice (s .at) m block)) + responseRoom ≤ length out
 
+-- the taking ends before the block's end only where there is no room
+abbrev pub Stops : List ℕ → List ℕ → Progress → Type 0
+Stops block out r = r .at < length block → length out < r .filled + responseRoom
+
 -- the bytes of the block between two states were taken: whatever was pending, what was written answers them
 pub record Took (block line out : List ℕ) (s : Progress) (line′ out′ : List ℕ) (r : Progress) : Type 0 where
   pub onward : s .at ≤ r .at

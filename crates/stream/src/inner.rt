@@ -8,7 +8,7 @@ ghost use lib.ListN.{length};
 ghost use Rattle.writing.specs.Wrote.{Wrote};
 ghost use Rattle.requests.specs.Requests.{responseTo};
 ghost use Rattle.requests.specs.Layout.{Spells};
-ghost use Rattle.stream.specs.Stream.{lastAnswer, responseRoom, kept, Holds, Inside, Took};
+ghost use Rattle.stream.specs.Stream.{lastAnswer, responseRoom, kept, Holds, Inside, Stops, Took};
 
 // How far the taking of a block has come: the place of the next byte, how much of the line that has not ended stands in the line
 // buffer, whether that line outgrew it, and how much of the output buffer is filled.
@@ -33,7 +33,7 @@ pub fn take_lines(
 ) -> Progress
     requires { ⌜ Spells (now table) × Inside (now block) (now line) (now out) s ⌝ }
     ensures took { λ r. ⌜ Took (now (block .entry)) (now (line .entry)) (now (out .entry)) s (now (line .exit)) (now (out .exit)) r ⌝ }
-    ensures stops { λ r. ⌜ (r .at < length (now (block .entry)) → length (now (out .entry)) < r .filled + responseRoom) ⌝ }
+    ensures stops { λ r. ⌜ Stops (now (block .entry)) (now (out .entry)) r ⌝ }
 {
     let mut state = s;
     while state.at < block.len() {
