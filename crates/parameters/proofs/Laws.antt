@@ -6,9 +6,9 @@ use mathlib.Core.Path.{_≡_, refl, sym, subst, _∙_, ap, ap₂}
 use mathlib.Core.Bool.{Bool, true, false, cond, _&&_}
 use mathlib.Core.List.{List, [], _∷_, _++_, append-assoc, append-nil}
 use mathlib.Core.Logic.{⊎-elim}
-use lib.ListN.{length, getD, take, drop, set, length-take, length-drop, drop-of-length-le}
+use lib.ListN.{length, getD, take, drop, set, replicate, length-take, drop-of-length-le, take-append-drop}
 use borrow.Author.Tests.{ne-eqb}
-use lib.Seq.{drop-cons, drop-drop, getD-take, take-suc-set}
+use lib.Seq.{drop-cons, drop-drop, drop-set-lt, getD-take, take-suc-set}
 use lib.IntN.{ℤ, pos, negsuc, negℤ, natAbs}
 use lib.Signed.{leZ, _≤ℤ_}
 use Rattle.whole.proofs.Laws.{ints, split}
@@ -18,7 +18,7 @@ use Rattle.lines.specs.Meaning.{ofNumber}
 use Rattle.lines.specs.declared.Number.{Number}
 use Rattle.lines.specs.declared.Number.the-variants as N
 use Rattle.parameters.specs.Kinds.{Kind, Arguments, these, noArguments, also, arguments}
-use Rattle.parameters.specs.Meaning.{Are, at, cellNumber, cellNumbers, numbersIn, Reads, Holds}
+use Rattle.parameters.specs.Meaning.{Are, at, cellNumber, cellNumbers, numbersIn, blank, Reads, Holds}
 use Rattle.parameters.specs.Letters.{letterKind, lettersKinds, boundsOf, isNumber, cellOf}
 use Rattle.parameters.specs.declared.Bounds.{Bounds}
 use Rattle.parameters.specs.declared.Cell.{Cell}
@@ -191,10 +191,70 @@ cell-there n i d h =
 
 -- ---- what was read
 
-pub reads-these : (count : ℕ) (cells : List Cell) (a : Arguments) → these (cellNumbers (take count cells)) ≡ a → count ≤ 24 →
-    Reads (record { known = true; count = count; cells = cells }) a
+pub reads-these : (count : ℕ) (cells : List Cell) (a : Arguments) → these (cellNumbers (take count cells)) ≡ a → count ≤ 24 → length cells ≡ 24 →
+    drop count cells ≡ replicate (24 - count) blank → Reads (record { known = true; count = count; cells = cells }) a
 unfolding numbersIn
-reads-these count cells a e h = record { reads-as = e; count-fits = h }
+reads-these count cells a e h l b = record { reads-as = e; count-fits = h; sized = l; others-blank = b; none-counted = λ f. clash true refl f }
+
+-- a number that is put into a cell leaves those behind it
+pub blank-more : (cells : List Cell) (k : ℕ) (c : Cell) → k < 24 → drop k cells ≡ replicate (24 - k) blank → drop (k + 1) (set cells k c) ≡ replicate (24 - (k + 1)) blank
+blank-more cells k c h e =
+    let f : 24 - k ≡ suc (24 - (k + 1)) = omega arith in
+    drop-set-lt (k + 1) cells k c (omega arith) ∙ sym (drop-drop 1 k cells) ∙ ap (drop 1) (rw f at e)
+
+-- two results that a reader's contract allows are one
+same-record : (s t : Bool) (m n : ℕ) → s ≡ t → m ≡ n → _≡_ {A = Cell} (record { negative = s; size = m }) (record { negative = t; size = n })
+same-record s t m n e f = rw (e, f)
+
+same-by : (s t : Bool) (m n : ℕ) → cond s (negsuc m) (pos m) ≡ cond t (negsuc n) (pos n) → (s ≡ t) × (m ≡ n)
+same-by true true m n e = (refl, cc)
+same-by false false m n e = (refl, cc)
+same-by true false m n e = let z : _≡_ {A = ℕ} 0 1 = cc in let f : ⊥ = omega arith in absurd f
+same-by false true m n e = let z : _≡_ {A = ℕ} 0 1 = cc in let f : ⊥ = omega arith in absurd f
+
+same-cell : (b c : Cell) → cellNumber b ≡ cellNumber c → b ≡ c
+same-cell b c e = let p = same-by (b .negative) (c .negative) (b .size) (c .size) e in same-record (b .negative) (c .negative) (b .size) (c .size) (p .0) (p .1)
+
+same-cells : (bs cs : List Cell) → cellNumbers bs ≡ cellNumbers cs → bs ≡ cs
+same-cells [] [] e = refl
+same-cells [] (c ∷ cs) e = let z : _≡_ {A = ℕ} 0 1 = cc in let n : ⊥ = omega arith in absurd n
+same-cells (b ∷ bs) [] e = let z : _≡_ {A = ℕ} 0 1 = cc in let n : ⊥ = omega arith in absurd n
+same-cells (b ∷ bs) (c ∷ cs) e =
+    let x : cellNumber b ≡ cellNumber c = cc in
+    let y : cellNumbers bs ≡ cellNumbers cs = cc in
+    ap₂ (λ (d : Cell) (ds : List Cell). d ∷ ds) (same-cell b c x) (same-cells bs cs y)
+
+same-numbers : (n m : Numbers) → n .known ≡ m .known → n .count ≡ m .count → n .cells ≡ m .cells → n ≡ m
+same-numbers n m e f g = go (n .known) (m .known) (n .count) (m .count) (n .cells) (m .cells) e f g
+  where
+    go : (s t : Bool) (a b : ℕ) (xs ys : List Cell) → s ≡ t → a ≡ b → xs ≡ ys →
+        _≡_ {A = Numbers} (record { known = s; count = a; cells = xs }) (record { known = t; count = b; cells = ys })
+    go s t a b xs ys e f g = rw (e, f, g)
+
+known-by : (s t : Bool) (xs ys : List ℤ) → cond s (these xs) noArguments ≡ cond t (these ys) noArguments → (s ≡ t) × (s ≡ true → xs ≡ ys)
+known-by true true xs ys e = (refl, λ f. cc)
+known-by false false xs ys e = (refl, λ f. clash false f refl)
+known-by true false xs ys e = let z : _≡_ {A = ℕ} 0 1 = cc in let f : ⊥ = omega arith in absurd f
+known-by false true xs ys e = let z : _≡_ {A = ℕ} 0 1 = cc in let f : ⊥ = omega arith in absurd f
+
+same-taken : {n m : Numbers} {a : Arguments} → Reads n a → Reads m a → take (n .count) (n .cells) ≡ take (m .count) (m .cells)
+unfolding numbersIn
+same-taken {n} {m} v w = go (n .known) refl
+  where
+    k : (n .known ≡ m .known) × (n .known ≡ true → cellNumbers (take (n .count) (n .cells)) ≡ cellNumbers (take (m .count) (m .cells)))
+    k = known-by (n .known) (m .known) _ _ (v .reads-as ∙ sym (w .reads-as))
+
+    go : (t : Bool) → n .known ≡ t → take (n .count) (n .cells) ≡ take (m .count) (m .cells)
+    go true e = same-cells _ _ (k .1 e)
+    go false e = rw (v .none-counted e, w .none-counted (sym (k .0) ∙ e))
+
+pub read-once : {n m : Numbers} {a : Arguments} → Reads n a → Reads m a → n ≡ m
+read-once {n} {m} v w =
+    let t = same-taken v w in
+    let c : n .count ≡ m .count = omega (arith, ap length t, length-take (n .count) (n .cells), length-take (m .count) (m .cells), v .count-fits, w .count-fits, v .sized, w .sized) in
+    let d : drop (n .count) (n .cells) ≡ drop (m .count) (m .cells) = v .others-blank ∙ ap (λ (k : ℕ). replicate (24 - k) blank) c ∙ sym (w .others-blank) in
+    same-numbers n m (known-by (n .known) (m .known) _ _ (v .reads-as ∙ sym (w .reads-as)) .0) c
+    (sym (take-append-drop (n .count) (n .cells)) ∙ ap₂ (λ (xs ys : List Cell). xs ++ ys) t d ∙ take-append-drop (m .count) (m .cells))
 
 pub reads-as-none : {n : Numbers} {a : Arguments} → Reads n noArguments → noArguments ≡ a → Reads n a
 reads-as-none h e = rw e at h

@@ -1,10 +1,10 @@
 -- What the records of the code mean: a number, the numbers of a request, and that they are of their parameters' types.
-use Prim.Native.Nat.{ℕ, _≤_}
+use Prim.Native.Nat.{ℕ, _-_, _≤_}
 use mathlib.Core.Path.{_≡_}
-use mathlib.Core.Bool.{cond}
+use mathlib.Core.Bool.{false, cond}
 use mathlib.Core.List.{List, [], _∷_}
 use lib.IntN.{ℤ, pos, negsuc, natAbs}
-use lib.ListN.{getD, take, drop}
+use lib.ListN.{length, getD, take, drop, replicate}
 use lib.Signed.{_≤ℤ_}
 use Rattle.parameters.specs.Kinds.{Kind, Arguments, these, noArguments}
 use Rattle.parameters.specs.declared.Cell.{Cell}
@@ -21,10 +21,17 @@ cellNumbers (c ∷ cs) = cellNumber c ∷ cellNumbers cs
 unfoldable pub numbersIn : Numbers → List ℤ
 numbersIn n = cellNumbers (take (n .count) (n .cells))
 
--- what was read of a line, with room for it
+-- a cell that no number was put into
+abbrev pub blank : Cell
+blank = record { negative = false; size = 0 }
+
+-- what was read of a line, with room for it; the cells past the numbers are blank
 pub record Reads (n : Numbers) (a : Arguments) : Type 0 where
   pub reads-as : cond (n .known) (these (numbersIn n)) noArguments ≡ a
   pub count-fits : n .count ≤ 24
+  pub sized : length (n .cells) ≡ 24
+  pub others-blank : drop (n .count) (n .cells) ≡ replicate (24 - n .count) blank
+  pub none-counted : n .known ≡ false → n .count ≡ 0
 
 -- the i-th number, from 0, and its size
 abbrev pub at : List ℤ → ℕ → ℤ

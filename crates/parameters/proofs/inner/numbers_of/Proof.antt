@@ -5,18 +5,19 @@ use native.Mathlib.Omega.{arith}
 use mathlib.Core.Path.{_≡_, refl, sym, _∙_}
 use mathlib.Core.List.{List, []}
 use borrow.Author.Tests.{not-true, not-false}
-use lib.ListN.{length, drop, getD, length-set}
+use lib.ListN.{length, drop, getD, replicate, length-set}
 use Rattle.lines.specs.Text.{word, rest, numberOf, within}
 use Rattle.lines.specs.Meaning.{ofNumber}
 use Rattle.lines.proofs.Words.{end-inside, word-there, rest-there}
+use Rattle.parameters.specs.Meaning.{blank}
 use Rattle.parameters.specs.Letters.{letterKind}
-use Rattle.parameters.proofs.Laws.{Filled, filled-none, missing, too-many, filled-all, no-number, one-more, reads-these, reads-as-none}
+use Rattle.parameters.proofs.Laws.{Filled, filled-none, missing, too-many, filled-all, no-number, one-more, blank-more, reads-these, reads-as-none}
 use Rattle.parameters.proofs.inner.numbers_of.Statement.{statement}
 use Rattle.parameters.proofs.inner.numbers_of.Tie as tie
 
 abbrev Inv-loop : tie.InvT-loop
 Inv-loop line from letters cells₀ at₀ k₀ cells at k =
-    (k ≤ length letters) × ((at ≤ length line) × ((length cells ≡ 24) × Filled letters line from cells k at))
+    (k ≤ length letters) × ((at ≤ length line) × (((length cells ≡ 24) × (drop k cells ≡ replicate (24 - k) blank)) × Filled letters line from cells k at))
 
 abbrev μ-loop : tie.MeasureT-loop
 μ-loop line from letters cells₀ at₀ k₀ cells at k = length letters - k
@@ -34,7 +35,7 @@ from l = l .before .before .before .args .from
 loop-holds : tie.Need-loop-holds Inv-loop μ-loop
 loop-holds c =
     let s = c .before .before in
-    (omega arith, (s .pre .0, (refl, filled-none (s .args .letters .now) (s .args .line .now) (s .args .from) [])))
+    (omega arith, (s .pre .0, ((refl, refl), filled-none (s .args .letters .now) (s .args .line .now) (s .args .from) [])))
 
 returns : tie.Need-returns Inv-loop μ-loop
 returns c =
@@ -76,12 +77,12 @@ loop-again c =
     let w = i .before .before .before .before in
     let l = at-loop w in
     let more = w .before .before .loop-test .taken in
-    let room : l .loop .k < length (l .loop .cells) = omega (arith, small l more, l .loop .inv .1 .1 .0) in (
+    let room : l .loop .k < length (l .loop .cells) = omega (arith, small l more, l .loop .inv .1 .1 .0 .0) in (
       omega (arith, more),
       (
         ends w,
         (
-          length-set (l .loop .cells) (l .loop .k) (c .cell-of .result) ∙ l .loop .inv .1 .1 .0,
+          (length-set (l .loop .cells) (l .loop .k) (c .cell-of .result) ∙ l .loop .inv .1 .1 .0 .0, blank-more (l .loop .cells) (l .loop .k) (c .cell-of .result) (small l more) (l .loop .inv .1 .1 .0 .1)),
           rw (c .cell-of .ensures)
               (one-more (letters l) (line l) (from l) (l .loop .cells) (l .loop .k) (l .loop .at) (w .word-end .result) (i .before .number-of .result) more (omega (arith, starts w))
               (rest-there (line l) _ _ (starts w) (w .word-end .ensures)) (found (i .before)) (l .loop .inv .1 .1 .1) (sym (i .is-number .ensures) ∙ not-false _ (c .before .if2 .left)) room),
@@ -100,7 +101,7 @@ returns-4 c =
     let l = c .before .before in
     reads-these (l .loop .k) (l .loop .cells) _
     (filled-all (letters l) (line l) (from l) (l .loop .cells) (l .loop .k) (l .loop .at) (c .before .loop-test .left) (c .if3 .left) (l .loop .inv .1 .1 .1))
-    (omega (arith, l .loop .inv .0, l .before .before .before .pre .1))
+    (omega (arith, l .loop .inv .0, l .before .before .before .pre .1)) (l .loop .inv .1 .1 .0 .0) (l .loop .inv .1 .1 .0 .1)
 
 pub numbers-of-spec : {M : Type 1} → statement M
 numbers-of-spec =
