@@ -1,5 +1,5 @@
 #!/usr/bin/env python3
-"""The 26 console calls by the rules (docs/RULES.md) and the TC39 Temporal proposal: request lines in, answer lines out.
+"""The console's calls by the rules (docs/RULES.md) and the TC39 Temporal proposal: request lines in, answer lines out.
 
 A computation of its own, which shares nothing with the crates and nothing with the Rust."""
 import re

@@ -37,4 +37,4 @@ whole-span =
 pub every-reading : AllAnswered readings
 unfolding fdiv fmod clampZ dayFromYear leapYear monthLengths isoDaysInMonth daysBeforeMonth dayFromMonth isoDateToEpochDays isValidISODate yearFromDay monthOf dayOf epochDaysToISODate constrainISODate nsWithinLimits balanced dateToDay dayToDate dateLimits regulateDate makeDate getUnsignedRoundingMode applyUnsignedRoundingMode roundQuotient roundNumberToIncrement roundNumberToIncrementAsIfPositive inSigned64 roundNumber roundNumberAsIfPositive isValidTime balanceTime nanoseconds unitLength quantity roundedUnits roundTime validIncrement allBounded balanceTimeFields roundedTime anyBelow anyAbove small smallDays allSmall isValidDuration movedBy isLater kept yearsUntil monthsUntil restStart daysUntil yearsFound monthsFound weeksFound dateUntil calendarDateUntil sumSteps dateSum dateDifference
 every-reading =
-    (refl, (refl, (refl, (refl, (refl, (refl, (refl, (refl, (refl, (refl, (refl, (refl, (refl, (refl, (whole-span, (refl, (refl, tt)))))))))))))))))
+    (record { takes = refl; answers = refl }, (record { takes = refl; answers = refl }, (record { takes = refl; answers = refl }, (record { takes = refl; answers = refl }, (record { takes = refl; answers = refl }, (record { takes = refl; answers = refl }, (record { takes = refl; answers = refl }, (record { takes = refl; answers = refl }, (record { takes = refl; answers = refl }, (record { takes = refl; answers = refl }, (record { takes = refl; answers = refl }, (record { takes = refl; answers = refl }, (record { takes = refl; answers = refl }, (record { takes = refl; answers = refl }, (record { takes = refl; answers = whole-span }, (record { takes = refl; answers = refl }, (record { takes = refl; answers = refl }, tt)))))))))))))))))

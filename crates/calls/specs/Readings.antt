@@ -1,12 +1,14 @@
 -- The readings of the bench that are proved: a call, its numbers, and what is answered.
-use Prim.Native.Nat.{ℕ}
 use Prim.Native.String.{String}
 use mathlib.Core.Path.{_≡_}
+use mathlib.Core.Bool.{Bool, true, false, _&&_}
 use mathlib.Core.List.{List, [], _∷_}
 use lib.IntN.{ℤ, pos, negℤ}
+use lib.Signed.{leZ}
 use Rattle.refusal.specs.Answer.{Answer, given, refused}
 use Rattle.replies.specs.Replies.{shown}
-use Rattle.calls.specs.Table.{answersOf}
+use Rattle.parameters.specs.Kinds.{Kind}
+use Rattle.calls.specs.Table.{takesOf, answersOf}
 
 pub record Reading : Type 0 where
   pub call : String
@@ -16,9 +18,17 @@ pub record Reading : Type 0 where
 abbrev reading : String → List ℤ → Answer (List ℤ) → Reading
 reading c zs a = record { call = c; numbers = zs; answer = a }
 
--- the call answers the numbers so
-abbrev pub Answered : Reading → Type 0
-Answered r = answersOf (r .call) (r .numbers) ≡ shown (λ vs. vs) (r .answer)
+-- a number for each parameter, and of its type
+abbrev pub ofTypes : List Kind → List ℤ → Bool
+ofTypes [] [] = true
+ofTypes [] (z ∷ zs) = false
+ofTypes (k ∷ ks) [] = false
+ofTypes (k ∷ ks) (z ∷ zs) = (leZ (k .low) z && leZ z (k .high)) && ofTypes ks zs
+
+-- the call takes the numbers, and answers so
+pub record Answered (r : Reading) : Type 0 where
+  pub takes : ofTypes (takesOf (r .call)) (r .numbers) ≡ true
+  pub answers : answersOf (r .call) (r .numbers) ≡ shown (λ vs. vs) (r .answer)
 
 abbrev pub AllAnswered : List Reading → Type 0
 AllAnswered [] = Unit {0}

@@ -6,7 +6,6 @@ use Prim.Native.String as Text
 use mathlib.Core.Bool.{cond}
 use mathlib.Core.List.{List, [], _∷_, _++_}
 use lib.IntN.{ℤ}
-use lib.ListN.{getD}
 use Rattle.refusal.specs.Answer.{Answer, given}
 use Rattle.lines.specs.Text.{sameBytes}
 use Rattle.writing.specs.Text.{spaced}
@@ -91,7 +90,7 @@ abbrev pub bytes : String → List ℕ
 bytes Text.[] = []
 bytes (Text._∷_ c cs) = code c ∷ bytes cs
 
--- no call has an empty name
+-- what stands past the last row: no call has an empty name
 abbrev pub noRow : Row
 noRow = row "" [] (λ zs. given [])
 

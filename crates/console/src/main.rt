@@ -26,7 +26,7 @@ fn main() {
     answer_all(&table, &mut block, &mut line, &mut out);
 }
 
-// Reads block by block to the input's end, and stops before it at the first read or write that fails. A loop has to end, and nothing
+// Reads block by block to the input's end, and stops before it at a write that fails, or a read that is not to be tried again. A loop has to end, and nothing
 // says that the input does, so the turns are counted down from a number that no run uses up.
 fn answer_all(table: &[u8], block: &mut [u8], line: &mut [u8], out: &mut [u8])
     requires { ⌜ Spells (now table) × ((length (now line) ≡ lineRoom) × (responseRoom ≤ length (now out))) ⌝ }
@@ -57,8 +57,8 @@ fn answer_all(table: &[u8], block: &mut [u8], line: &mut [u8], out: &mut [u8])
     }
 }
 
-// Whether a read that failed is to be tried again: a signal came between, or there is nothing to read yet, and others may run before
-// that. Any other failure is told.
+// Whether a read that failed is to be tried again: a signal came between, or there is nothing to read yet; then other processes are let
+// run first. Any other failure is told on standard error.
 fn comes_later(error: i32) -> bool {
     if (error == EINTR) | (error == EAGAIN) {
         libc::sched_yield();

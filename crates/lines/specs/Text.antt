@@ -22,7 +22,7 @@ questionMark = 63
 abbrev pub newline : ℕ
 newline = 10
 
--- ---- words: what stands between single spaces. Two spaces in a row, or one at an end, have an empty word between them
+-- ---- words: what stands between single spaces. Two spaces in a row have an empty word between them, one at an end of the line an empty word beside it
 
 -- what stands before the first space, or all
 unfoldable pub word : List ℕ → List ℕ
@@ -42,8 +42,8 @@ spaceless (b ∷ bs) = cond (eqb b space) false (spaceless bs)
 abbrev pub sameBytes : List ℕ → List ℕ → Bool
 sameBytes [] [] = true
 sameBytes [] (b ∷ bs) = false
-sameBytes (a ∷ rest) [] = false
-sameBytes (a ∷ rest) (b ∷ bs) = eqb a b && sameBytes rest bs
+sameBytes (a ∷ left) [] = false
+sameBytes (a ∷ left) (b ∷ right) = eqb a b && sameBytes left right
 
 -- ---- numbers
 
@@ -70,13 +70,15 @@ shortest [] = false
 shortest (b ∷ []) = isDigit b
 shortest (b ∷ c ∷ bs) = not (eqb b digitZero) && allDigits (b ∷ c ∷ bs)
 
--- a number of the protocol: a natural below 2^64, or `-` before a natural from 1 to 2^63
+-- a natural below 2^64
 abbrev pub naturalOf : List ℕ → Found
 naturalOf bs = cond (shortest bs && ltb (valueFrom 0 bs) (2 ^ 64)) (number (pos (valueFrom 0 bs))) none
 
+-- what follows a `-`: a natural from 1 to 2^63
 abbrev pub negativeOf : List ℕ → Found
 negativeOf bs = cond (shortest bs && (ltb 0 (valueFrom 0 bs) && leb (valueFrom 0 bs) (2 ^ 63))) (number (negℤ (pos (valueFrom 0 bs)))) none
 
+-- a number of the protocol
 unfoldable pub numberOf : List ℕ → Found
 numberOf [] = none
 numberOf (b ∷ bs) = cond (eqb b minusSign) (negativeOf bs) (naturalOf (b ∷ bs))

@@ -29,7 +29,7 @@ enum Natural {
 }
 
 // Where the word that starts at a place of the line ends: at the first space from there on, or at the line's end.
-// From past the line's end on there is no word, and it ends where it starts.
+// Past the line's end there is no word: it ends where it starts.
 pub fn word_end(line: &[u8], from: usize) -> usize
     ensures { λ r. ⌜ r ≡ from + length (word (drop from (now (line .entry)))) ⌝ }
 {

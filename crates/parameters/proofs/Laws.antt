@@ -20,7 +20,6 @@ use Rattle.lines.specs.declared.Number.the-variants as N
 use Rattle.parameters.specs.Kinds.{Kind, Arguments, these, noArguments, also, arguments}
 use Rattle.parameters.specs.Meaning.{Are, at, cellNumber, cellNumbers, numbersIn, blank, Reads, Holds}
 use Rattle.parameters.specs.Letters.{letterKind, lettersKinds, boundsOf, isNumber, cellOf}
-use Rattle.parameters.specs.declared.Bounds.{Bounds}
 use Rattle.parameters.specs.declared.Cell.{Cell}
 use Rattle.parameters.specs.declared.Numbers.{Numbers}
 

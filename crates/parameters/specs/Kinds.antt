@@ -26,11 +26,12 @@ pub data Arguments : Type 0 where
   noArguments : Arguments
 
 unfoldable pub also : Found → Arguments → Arguments
-also none rest = noArguments
+also none others = noArguments
 also (number z) noArguments = noArguments
 also (number z) (these zs) = these (z ∷ zs)
 
--- what follows the name of a call: for each parameter a space and its number, and nothing more
+-- what follows the name of a call: for each parameter a space and its number, and nothing more. What follows a word starts with its space,
+-- which is passed over
 unfoldable pub arguments : List Kind → List ℕ → Arguments
 arguments [] [] = these []
 arguments [] (b ∷ bs) = noArguments

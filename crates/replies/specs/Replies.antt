@@ -27,7 +27,7 @@ abbrev pub shown : {A : Type 0} → (A → List ℤ) → Answer A → Answer (Li
 shown values (given a) = given (spaced (values a))
 shown values (refused n) = refused n
 
--- the reply stands in a lent buffer from `at` on, and no other byte of it has changed; 255 bytes hold the longest
+-- the reply stands in a lent buffer from `at` on, and no other byte of it has changed; 255 bytes hold any
 pub record Replied (before : List ℕ) (at : ℕ) (a : Answer (List ℕ)) (after : List ℕ) (end : ℕ) : Type 0 where
   pub wrote : Wrote before at (replyText a) after end
   pub short : end ≤ at + 255

@@ -4,7 +4,7 @@ use native.Mathlib.Numerals.{add-one}
 use native.Mathlib.Omega.{arith}
 use mathlib.Core.Path.{_≡_, refl, sym, ap, subst, _∙_}
 use mathlib.Core.Bool.{Bool, true, false, cond, _&&_}
-use mathlib.Core.List.{List, [], _∷_, _++_}
+use mathlib.Core.List.{List, [], _∷_}
 use borrow.Author.Tests.{le-leb, lt-leb, leb-true}
 use lib.Dec.{leb}
 use lib.IntN.{ℤ}
@@ -12,7 +12,7 @@ use lib.ListN.{length, take, drop, getD, length-drop, drop-of-length-le}
 use lib.Seq.{drop-cons, drop-drop, getD-drop}
 use Rattle.whole.proofs.Tests.{both, clash}
 use Rattle.lines.specs.Text.{word, rest, space, spaceless, sameBytes}
-use Rattle.lines.proofs.Words.{word-start, rest-start, rest-first, word-of-start, same-yes, same-no, same-eq}
+use Rattle.lines.proofs.Words.{word-start, rest-start, rest-first, word-of-start, same-yes, same-no}
 use Rattle.parameters.specs.Kinds.{Kind, Arguments, these, noArguments, arguments}
 use Rattle.parameters.specs.Letters.{lettersKinds}
 use Rattle.parameters.specs.Meaning.{Reads, numbersIn}

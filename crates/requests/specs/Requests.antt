@@ -28,10 +28,10 @@ replyBy (r ∷ rs) line = cond (sameBytes (word line) (bytes (r .name))) (replyW
 abbrev pub lineRoom : ℕ
 lineRoom = 1000
 
+-- an empty line is answered by an empty line
 unfoldable pub replyTo : List ℕ → List ℕ
 replyTo [] = []
 replyTo (b ∷ bs) = cond (leb (length (b ∷ bs)) lineRoom) (replyBy calls (b ∷ bs)) question
 
--- an empty line is answered by an empty line
 abbrev pub responseTo : List ℕ → List ℕ
 responseTo line = replyTo line ++ (newline ∷ [])

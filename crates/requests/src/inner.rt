@@ -67,7 +67,7 @@ pub fn table() -> [u8; 1352]
       datetime_from_instant       lll                     "
 }
 
-// Writes the response from `at` on and returns the place after it. 256 bytes hold the longest.
+// Writes the response from `at` on and returns the place after it. 256 bytes hold any.
 pub fn respond(table: &[u8], line: &[u8], out: &mut [u8], at: usize) -> usize
     requires { ⌜ Spells (now table) × (at + 256 ≤ length (now out)) ⌝ }
     ensures { λ r. ⌜ Wrote (now (out .entry)) at (responseTo (now (line .entry))) (now (out .exit)) r ⌝ }
@@ -171,6 +171,7 @@ fn answer(place: usize, n: Numbers, out: &mut [u8], at: usize) -> usize
         23 => date_times::round_datetime(n, out, at),
         24 => date_times::datetime_difference(n, out, at),
         25 => date_times::datetime_from_instant(n, out, at),
+        // No place is past the last call.
         _ => at,
     }
 }

@@ -56,7 +56,7 @@ keptAfter k (b ∷ bs) = keptAfter (keptWith k b) bs
 
 -- ---- a block that is taken in parts
 
--- the room that the longest response takes
+-- room enough for any response
 abbrev pub responseRoom : ℕ
 responseRoom = 256
 

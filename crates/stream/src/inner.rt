@@ -19,8 +19,8 @@ pub struct Progress {
     pub filled: usize,
 }
 
-// The longest response in bytes.
-const LONGEST: usize = 256;
+// Room enough for any response.
+const ROOM: usize = 256;
 
 // Takes the bytes of the block from a place on, and answers each line that ends among them. It stops at the block's end, and before
 // it where the output buffer has no room for one more response.
@@ -37,7 +37,7 @@ pub fn take_lines(
 {
     let mut state = s;
     while state.at < block.len() {
-        if out.len() - state.filled < LONGEST {
+        if out.len() - state.filled < ROOM {
             return state;
         }
         state = take_byte(table, block, line, out, state);

@@ -11,7 +11,6 @@ ghost use Rattle.writing.specs.Text.{digits, decimal};
 ghost use Rattle.writing.specs.Wrote.{Wrote};
 
 // Writes one byte.
-// A text of one's own is written byte by byte.
 pub fn put_byte(out: &mut [u8], at: usize, b: u8) -> usize
     requires { ⌜ at < length (now out) ⌝ }
     ensures { λ r. ⌜ Wrote (now (out .entry)) at (b ∷ []) (now (out .exit)) r ⌝ }

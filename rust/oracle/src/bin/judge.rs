@@ -28,7 +28,7 @@ fn main() {
     let (mut agree, mut differ, mut own) = (0, 0, 0);
     let mut explained = vec![0; entries.len()];
     for ((request, console), oracle) in lines(&requests).zip(lines(&console)).zip(lines(&oracle)) {
-        own += usize::from(is_own(request));
+        own += usize::from(oracle != b"-" && is_own(request));
         let listed = explanation(&entries, request, oracle);
         match &listed {
             Some((at, paper)) if Paper::read(console).as_ref() == Some(paper) => explained[*at] += 1,
@@ -50,7 +50,7 @@ fn main() {
     for (entry, count) in entries.iter().zip(&explained) {
         println!("{} explains {count}: {}", entry.number, entry.title);
     }
-    println!("{own} are requests that the Rust's own text answers: not spoiled, and not of the calls that are filled in");
+    println!("{own} are requests to the Rust's own text: not spoiled, not of the calls that are filled in, and such that its types take them");
     let explained: usize = explained.iter().sum();
     println!("compared {}, agree {agree}, explained {explained}, differ {differ}", counts[0]);
     std::process::exit(i32::from(differ > 0));

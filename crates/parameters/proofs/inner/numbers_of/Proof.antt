@@ -6,7 +6,7 @@ use mathlib.Core.Path.{_≡_, refl, sym, _∙_}
 use mathlib.Core.List.{List, []}
 use borrow.Author.Tests.{not-true, not-false}
 use lib.ListN.{length, drop, getD, replicate, length-set}
-use Rattle.lines.specs.Text.{word, rest, numberOf, within}
+use Rattle.lines.specs.Text.{word, numberOf, within}
 use Rattle.lines.specs.Meaning.{ofNumber}
 use Rattle.lines.proofs.Words.{end-inside, word-there, rest-there}
 use Rattle.parameters.specs.Meaning.{blank}

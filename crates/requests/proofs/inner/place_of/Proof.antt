@@ -1,5 +1,4 @@
 -- While the rows are walked, the present place and that of the name among the rows from there on are its place among all.
-use borrow.Author.Needs.{needs}
 use Prim.Native.Nat.{ℕ, _+_, _-_, _≤_}
 use native.Mathlib.Omega.{arith}
 use mathlib.Core.Path.{_≡_, sym, ap, _∙_}
@@ -12,10 +11,10 @@ use Rattle.requests.proofs.inner.place_of.Statement.{statement}
 use Rattle.requests.proofs.inner.place_of.Tie as tie
 
 abbrev Inv-loop : tie.InvT-loop
-Inv-loop table name place₀ place = (place ≤ 26) × (place + placeIn (drop place calls) name ≡ placeIn calls name)
+Inv-loop table name place₀ place = (place ≤ length calls) × (place + placeIn (drop place calls) name ≡ placeIn calls name)
 
 abbrev μ-loop : tie.MeasureT-loop
-μ-loop table name place₀ place = 26 - place
+μ-loop table name place₀ place = length calls - place
 
 returns : tie.Need-returns Inv-loop μ-loop
 returns c = sym (long-name _ (c .if1 .taken))

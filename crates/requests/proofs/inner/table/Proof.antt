@@ -7,7 +7,7 @@ use Rattle.requests.proofs.inner.table.Tie as tie
 
 returns : tie.Need-returns
 unfolding word boundsOf lettersKinds
-returns c = record { sized = refl; names = refl; letters = refl }
+returns c = record { text = refl; sized = refl; names = refl; letters = refl }
 
 pub table-spec : {M : Type 1} → statement M
 table-spec = tie.close (tie.spec returns)

@@ -19,8 +19,8 @@ returns-2 c =
 
 returns-3 : tie.Need-returns-3
 returns-3 c =
-    let pre = c .before .before .before .before .before .before .before .pre .1 in
-    (refl, took-long (pre .0) (pre .1 .0) (pre .1 .1) (c .before .if1 .left) (c .if2 .left))
+    let given = c .before .before .before .before .before .before .before .pre .1 in
+    (refl, took-long (given .0) (given .1 .0) (given .1 .1) (c .before .if1 .left) (c .if2 .left))
 
 pub take-byte-spec : {M : Type 1} → statement M
 take-byte-spec =
