@@ -1,25 +1,28 @@
 -- The numbers as the call's parameters, the call, and its answer as the reply.
 use borrow.Author.Needs.{needs}
-use mathlib.Core.Path.{_≡_}
+use mathlib.Core.Path.{ap}
+use mir.Facts.{toZ-ofZ}
 use mir.Syntax.{w32, w64}
-use mir.Val.{toZ, ofZ}
 use Rattle.parameters.proofs.Laws.{holds-at}
+use Rattle.replies.specs.Replies.{shown, dateTimeValues}
 use Rattle.replies.proofs.Laws.{replied-as}
 use Rattle.calls.proofs.inner.date_times.balance_datetime.Statement.{statement}
 use Rattle.calls.proofs.inner.date_times.balance_datetime.Tie as tie
 
 returns : tie.Need-returns
 returns c =
-    let e0 : toZ w32 (ofZ w32 (c .before .before .before .before .before .before .before .before .before .before .before .before .before .int .result)) ≡ c .before .before .before .before .before .before .before .before .before .before .before .before .before .int .result = search needs in
-    let e1 : toZ w32 (ofZ w32 (c .before .before .before .before .before .before .before .before .before .before .before .before .int2 .result)) ≡ c .before .before .before .before .before .before .before .before .before .before .before .before .int2 .result = search needs in
-    let e2 : toZ w64 (ofZ w64 (c .before .before .before .before .before .before .before .before .before .before .before .long .result)) ≡ c .before .before .before .before .before .before .before .before .before .before .before .long .result = search needs in
-    let e3 : toZ w64 (ofZ w64 (c .before .before .before .before .before .before .before .before .before .before .long2 .result)) ≡ c .before .before .before .before .before .before .before .before .before .before .long2 .result = search needs in
-    let e4 : toZ w64 (ofZ w64 (c .before .before .before .before .before .before .before .before .before .long3 .result)) ≡ c .before .before .before .before .before .before .before .before .before .long3 .result = search needs in
-    let e5 : toZ w64 (ofZ w64 (c .before .before .before .before .before .before .before .before .long4 .result)) ≡ c .before .before .before .before .before .before .before .before .long4 .result = search needs in
-    let e6 : toZ w64 (ofZ w64 (c .before .before .before .before .before .before .before .long5 .result)) ≡ c .before .before .before .before .before .before .before .long5 .result = search needs in
-    let e7 : toZ w64 (ofZ w64 (c .before .before .before .before .before .before .long6 .result)) ≡ c .before .before .before .before .before .before .long6 .result = search needs in
-    let e8 : toZ w64 (ofZ w64 (c .before .before .before .before .before .long7 .result)) ≡ c .before .before .before .before .before .long7 .result = search needs in
-    replied-as (c .before .before .date-time-reply .ensures) (cc)
+    let call = c .before .before .before .before in
+    let n8 = call .before in
+    let n7 = n8 .before in
+    let n6 = n7 .before in
+    let n5 = n6 .before in
+    let n4 = n5 .before in
+    let n3 = n4 .before in
+    let n2 = n3 .before in
+    let n1 = n2 .before in
+    let n0 = n1 .before in
+    replied-as (c .before .before .date-time-reply .ensures)
+    (ap (shown dateTimeValues) (rw (toZ-ofZ {w = w32} {z = n0 .int .result} (record { sfits = n0 .int .ok }), toZ-ofZ {w = w32} {z = n1 .int2 .result} (record { sfits = n1 .int2 .ok }), toZ-ofZ {w = w64} {z = n2 .long .result} (record { sfits = n2 .long .ok }), toZ-ofZ {w = w64} {z = n3 .long2 .result} (record { sfits = n3 .long2 .ok }), toZ-ofZ {w = w64} {z = n4 .long3 .result} (record { sfits = n4 .long3 .ok }), toZ-ofZ {w = w64} {z = n5 .long4 .result} (record { sfits = n5 .long4 .ok }), toZ-ofZ {w = w64} {z = n6 .long5 .result} (record { sfits = n6 .long5 .ok }), toZ-ofZ {w = w64} {z = n7 .long6 .result} (record { sfits = n7 .long6 .ok }), toZ-ofZ {w = w64} {z = n8 .long7 .result} (record { sfits = n8 .long7 .ok }), n0 .int .ensures, n1 .int2 .ensures, n2 .long .ensures, n3 .long2 .ensures, n4 .long3 .ensures, n5 .long4 .ensures, n6 .long5 .ensures, n7 .long6 .ensures, n8 .long7 .ensures) at (call .balance .ensures)))
 
 pub balance-datetime-spec : {M : Type 1} → statement M
 balance-datetime-spec =

@@ -1,19 +1,22 @@
 -- The numbers as the call's parameters, the call, and its answer as the reply.
 use borrow.Author.Needs.{needs}
-use mathlib.Core.Path.{_≡_}
+use mathlib.Core.Path.{ap}
+use mir.Facts.{toZ-ofZ}
 use mir.Syntax.{w32, w64}
-use mir.Val.{toZ, ofZ}
 use Rattle.parameters.proofs.Laws.{holds-at}
+use Rattle.replies.specs.Replies.{shown, dateValues}
 use Rattle.replies.proofs.Laws.{replied-as}
 use Rattle.calls.proofs.inner.dates.balance_date.Statement.{statement}
 use Rattle.calls.proofs.inner.dates.balance_date.Tie as tie
 
 returns : tie.Need-returns
 returns c =
-    let e0 : toZ w32 (ofZ w32 (c .before .before .before .before .before .before .before .int .result)) ≡ c .before .before .before .before .before .before .before .int .result = search needs in
-    let e1 : toZ w32 (ofZ w32 (c .before .before .before .before .before .before .int2 .result)) ≡ c .before .before .before .before .before .before .int2 .result = search needs in
-    let e2 : toZ w64 (ofZ w64 (c .before .before .before .before .before .long .result)) ≡ c .before .before .before .before .before .long .result = search needs in
-    replied-as (c .before .before .date-reply .ensures) (cc)
+    let call = c .before .before .before .before in
+    let n2 = call .before in
+    let n1 = n2 .before in
+    let n0 = n1 .before in
+    replied-as (c .before .before .date-reply .ensures)
+    (ap (shown dateValues) (rw (toZ-ofZ {w = w32} {z = n0 .int .result} (record { sfits = n0 .int .ok }), toZ-ofZ {w = w32} {z = n1 .int2 .result} (record { sfits = n1 .int2 .ok }), toZ-ofZ {w = w64} {z = n2 .long .result} (record { sfits = n2 .long .ok }), n0 .int .ensures, n1 .int2 .ensures, n2 .long .ensures) at (call .try-balance .ensures)))
 
 pub balance-date-spec : {M : Type 1} → statement M
 balance-date-spec =

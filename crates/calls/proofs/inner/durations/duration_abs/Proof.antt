@@ -1,13 +1,18 @@
 -- The numbers as the call's parameters, the call, and its answer as the reply.
 use borrow.Author.Needs.{needs}
+use mathlib.Core.Path.{ap}
 use Rattle.parameters.proofs.Laws.{holds-at}
+use Rattle.replies.specs.Replies.{shown, durationValues}
 use Rattle.replies.proofs.Laws.{replied-as}
 use Rattle.calls.proofs.inner.durations.duration_abs.Statement.{statement}
 use Rattle.calls.proofs.inner.durations.duration_abs.Tie as tie
 
 returns : tie.Need-returns
 returns c =
-    replied-as (c .before .before .duration-reply .ensures) (cc)
+    let call = c .before .before .before .before in
+    let n0 = call .before in
+    replied-as (c .before .before .duration-reply .ensures)
+    (ap (shown durationValues) (rw (n0 .duration .ensures) at (call .abs .ensures)))
 
 pub duration-abs-spec : {M : Type 1} → statement M
 duration-abs-spec =

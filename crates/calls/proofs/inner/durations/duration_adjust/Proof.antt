@@ -1,17 +1,23 @@
 -- The numbers as the call's parameters, the call, and its answer as the reply.
 use borrow.Author.Needs.{needs}
-use mathlib.Core.Path.{_≡_}
+use mathlib.Core.Path.{ap}
+use mir.Facts.{toZ-ofZ}
 use mir.Syntax.{w64}
-use mir.Val.{toZ, ofZ}
 use Rattle.parameters.proofs.Laws.{holds-at}
+use Rattle.replies.specs.Replies.{shown, durationValues}
 use Rattle.replies.proofs.Laws.{replied-as}
 use Rattle.calls.proofs.inner.durations.duration_adjust.Statement.{statement}
 use Rattle.calls.proofs.inner.durations.duration_adjust.Tie as tie
 
 returns : tie.Need-returns
 returns c =
-    let e0 : toZ w64 (ofZ w64 (c .before .before .before .before .before .before .before .long .result)) ≡ c .before .before .before .before .before .before .before .long .result = search needs in
-    replied-as (c .before .before .duration-reply .ensures) (cc)
+    let call = c .before .before .before .before in
+    let n3 = call .before in
+    let n2 = n3 .before in
+    let n1 = n2 .before in
+    let n0 = n1 .before in
+    replied-as (c .before .before .duration-reply .ensures)
+    (ap (shown durationValues) (rw (toZ-ofZ {w = w64} {z = n1 .long .result} (record { sfits = n1 .long .ok }), n0 .duration .ensures, n1 .long .ensures, n2 .part .ensures, n3 .part2 .ensures) at (call .adjust .ensures)))
 
 pub duration-adjust-spec : {M : Type 1} → statement M
 duration-adjust-spec =

@@ -1,13 +1,18 @@
 -- The numbers as the call's parameters, the call, and its answer as the reply.
 use borrow.Author.Needs.{needs}
+use mathlib.Core.Path.{ap}
 use Rattle.parameters.proofs.Laws.{holds-at}
+use Rattle.replies.specs.Replies.{shown, signValue}
 use Rattle.replies.proofs.Laws.{replied-as}
 use Rattle.calls.proofs.inner.durations.duration_sign.Statement.{statement}
 use Rattle.calls.proofs.inner.durations.duration_sign.Tie as tie
 
 returns : tie.Need-returns
 returns c =
-    replied-as (c .before .before .sign-reply .ensures) (cc)
+    let call = c .before .before .before .before in
+    let n0 = call .before in
+    replied-as (c .before .before .sign-reply .ensures)
+    (ap (shown signValue) (rw (n0 .duration .ensures) at (call .sign .ensures)))
 
 pub duration-sign-spec : {M : Type 1} → statement M
 duration-sign-spec =

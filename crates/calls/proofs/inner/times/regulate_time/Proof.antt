@@ -1,13 +1,19 @@
 -- The numbers as the call's parameters, the call, and its answer as the reply.
 use borrow.Author.Needs.{needs}
+use mathlib.Core.Path.{ap}
 use Rattle.parameters.proofs.Laws.{holds-at}
+use Rattle.replies.specs.Replies.{shown, timeValues}
 use Rattle.replies.proofs.Laws.{replied-as}
 use Rattle.calls.proofs.inner.times.regulate_time.Statement.{statement}
 use Rattle.calls.proofs.inner.times.regulate_time.Tie as tie
 
 returns : tie.Need-returns
 returns c =
-    replied-as (c .before .before .time-reply .ensures) (cc)
+    let call = c .before .before .before .before in
+    let n1 = call .before in
+    let n0 = n1 .before in
+    replied-as (c .before .before .time-reply .ensures)
+    (ap (shown timeValues) (rw (n0 .time .ensures, n1 .overflow .ensures) at (call .new .ensures)))
 
 pub regulate-time-spec : {M : Type 1} → statement M
 regulate-time-spec =

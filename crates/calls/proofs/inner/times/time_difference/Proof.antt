@@ -1,13 +1,19 @@
 -- The numbers as the call's parameters, the call, and its answer as the reply.
 use borrow.Author.Needs.{needs}
+use mathlib.Core.Path.{ap}
 use Rattle.parameters.proofs.Laws.{holds-at}
+use Rattle.replies.specs.Replies.{shown, spanValues}
 use Rattle.replies.proofs.Laws.{replied-as}
 use Rattle.calls.proofs.inner.times.time_difference.Statement.{statement}
 use Rattle.calls.proofs.inner.times.time_difference.Tie as tie
 
 returns : tie.Need-returns
 returns c =
-    replied-as (c .before .before .span-reply .ensures) (cc)
+    let call = c .before .before .before .before in
+    let n1 = call .before in
+    let n0 = n1 .before in
+    replied-as (c .before .before .span-reply .ensures)
+    (ap (shown spanValues) (rw (n0 .time .ensures, n1 .time2 .ensures) at (call .diff .ensures)))
 
 pub time-difference-spec : {M : Type 1} → statement M
 time-difference-spec =
