@@ -1,8 +1,8 @@
 // Date durations: years, months, weeks and days that do not pull opposite ways.
-use whole::inner::above;
+use whole::inner::from_natural;
 use whole::inner::negated;
-use whole::inner::plus;
-use whole::inner::size_below;
+use whole::inner::size_of_negative;
+use whole::inner::to_natural;
 ghost use mathlib.Core.Path.{_≡_};
 ghost use Prim.Native.Nat.{_<_, _^_};
 ghost use lib.IntN.{natAbs, pos, negℤ};
@@ -77,7 +77,7 @@ fn size(x: i64) -> i64
     ensures { λ r. ⌜ r ≡ pos (natAbs x) ⌝ }
 {
     if x < 0 {
-        return plus(size_below(x));
+        return from_natural(size_of_negative(x));
     }
     x
 }
@@ -88,9 +88,9 @@ fn turned(x: i64) -> i64
     ensures { λ r. ⌜ r ≡ negℤ x ⌝ }
 {
     if x < 0 {
-        return plus(size_below(x));
+        return from_natural(size_of_negative(x));
     }
-    negated(above(x))
+    negated(to_natural(x))
 }
 
 fn kept_or(part: Part, old: i64) -> i64

@@ -1,16 +1,17 @@
--- What the steps of the code do to naturals at their biases, over plain variables: the proofs of `inner` cite these. Assumes nothing.
+-- What the steps of the code do to naturals at their biases, over plain variables: the proofs of `inner` cite these.
 use Prim.Native.Nat.{ℕ, _+_, _-_, _*_, _/_, _%_, _^_, _≤_, _<_}
 use native.Mathlib.Omega.{arith}
 use mathlib.Core.Path.{_≡_, refl, sym, _∙_, ap}
-use mathlib.Core.Bool.{Bool, true, false}
+use mathlib.Core.Bool.{Bool, true, false, cond}
 use borrow.Author.Tests.{eq-eqb, ne-eqb, le-leb, lt-leb}
 use lib.Dec.{eqb, leb}
 use lib.ListN.{getD}
-use lib.IntN.{ℤ, pos, negℤ, _+ℤ_, _-ℤ_, _*ℤ_}
+use lib.IntN.{ℤ, pos, negℤ, natAbs, _+ℤ_, _-ℤ_, _*ℤ_}
+use mir.Syntax.{w32, w64}
+use mir.Val.{SFits}
 use Rattle.whole.specs.Whole.{_⊖_, clampZ}
-use Rattle.whole.proofs.Laws.{ints, whole, read-add, read-diff, read-times, fdiv-unique}
+use Rattle.whole.proofs.Laws.{ints, whole, read-add, read-diff, read-times, size-of, range-of, fdiv-unique}
 use Rattle.iso_date.specs.Proposal.{date, epochDays, monthLengths, leapYear, isoDaysInMonth, dayFromMonth, constrainISODate, clampTo}
-use Rattle.iso_date.specs.Paper.{dayToDate}
 use Rattle.iso_date.specs.Inner.{yearBias, monthBias, dayBias, Balances}
 use Rattle.iso_date.proofs.Answers.{length-of-year, constrained-valid, day-of-date}
 use Rattle.iso_date.proofs.Dates.{read-valid}
@@ -30,11 +31,9 @@ pub shifted-back : (forward : Bool) (from months : ℕ) → forward ≡ false �
     (from - months) ⊖ 0 ≡ (from ⊖ 0) +ℤ directed forward months
 shifted-back forward from months e h = rw e (simp whole (omega arith))
 
-pub directed-up : (forward : Bool) (n : ℕ) → forward ≡ true → pos n ≡ directed forward n
-directed-up forward n e = rw e
-
-pub directed-down : (forward : Bool) (n : ℕ) → forward ≡ false → negℤ (pos n) ≡ directed forward n
-directed-down forward n e = rw e
+pub directed-is : (forward : Bool) (n : ℕ) → cond forward (pos n) (negℤ (pos n)) ≡ directed forward n
+directed-is true n = refl
+directed-is false n = refl
 
 -- ---- counts within a distance, by the unit's rank
 
@@ -77,35 +76,23 @@ unfolding placeOf
 place-is y u m d e =
     omega (arith, ints, read-times 384 y, read-diff u yearBias, read-add (pos 384 *ℤ y) (pos (32 * m + d)), read-diff (384 * u + 32 * m + d) placeBias)
 
--- ---- the sum of days
-
-pub days-sum : (x n w z : ℤ) (a b c : ℕ) → x ≡ a ⊖ (dayBias + 1) → n ≡ b ⊖ (2 ^ 38) → w ≡ c ⊖ (2 ^ 32) →
-    z ≡ (a + b + 7 * c) ⊖ (dayBias + 1 + 2 ^ 38 + 7 * 2 ^ 32) → dayToDate z ≡ dayToDate (x +ℤ (n +ℤ pos 7 *ℤ w))
-days-sum x n w z a b c e f g h =
-    ap dayToDate (omega (
-      arith,
-      ints,
-      read-diff a (dayBias + 1),
-      read-diff b (2 ^ 38),
-      read-diff c (2 ^ 32),
-      read-diff (a + b + 7 * c) (dayBias + 1 + 2 ^ 38 + 7 * 2 ^ 32),
-      read-times 7 w,
-      read-add n (pos 7 *ℤ w),
-      read-add x (n +ℤ pos 7 *ℤ w),
-    ))
-
 -- ---- a date moved by years and months
 
-pub moved-is : (y years months z : ℤ) (m d u p q year index : ℕ) → y ≡ u ⊖ yearBias → years ≡ p ⊖ (2 ^ 32) → months ≡ q ⊖ monthBias →
-    2 ^ 32 ≤ u + p → Balances (u + p - 2 ^ 32) (q + m) year index →
-    z ≡ clampZ (year ⊖ yearBias) (negℤ (pos (2 ^ 31))) (pos (2 ^ 31 - 1)) →
+pub year-small : (y years : ℤ) → SFits w32 y → natAbs years < 2 ^ 32 → natAbs (y +ℤ years) < 7000000000
+year-small y years f h =
+    omega (arith, ints, read-add y years, size-of years, size-of (y +ℤ years), range-of (y +ℤ years), f .sfits, range-of y)
+
+pub month-small : (m : ℕ) (months : ℤ) → m < 256 → natAbs months < 2 ^ 32 → natAbs (pos m +ℤ months) < 4300000000
+month-small m months l h = omega (arith, ints, read-add (pos m) months, size-of months, size-of (pos m +ℤ months), range-of (pos m +ℤ months))
+
+pub small-fits : (z : ℤ) → natAbs z < 2 ^ 62 → SFits w64 z
+small-fits z h = omega (arith, ints, size-of z, range-of z)
+
+pub moved-is : (y years months z : ℤ) (m d u t year index : ℕ) → y +ℤ years ≡ u ⊖ yearBias → pos m +ℤ months ≡ t ⊖ monthBias →
+    Balances u t year index → z ≡ clampZ (year ⊖ yearBias) (negℤ (pos (2 ^ 31))) (pos (2 ^ 31 - 1)) →
     date z (index + 1) d ≡ clampedYear (movedBy (date y m d) years months)
 unfolding movedBy
-moved-is y years months z m d u p q year index e f g h b i =
-    let j : y +ℤ years ≡ (u + p - 2 ^ 32) ⊖ yearBias =
-    omega (arith, ints, read-diff u yearBias, read-diff p (2 ^ 32), read-add y years, read-diff (u + p - 2 ^ 32) yearBias) in
-    let k : pos m +ℤ months ≡ (q + m) ⊖ monthBias = omega (arith, ints, read-diff q monthBias, read-add (pos m) months, read-diff (q + m) monthBias) in
-    rw (i, b .year-is, b .month-is, j, k)
+moved-is y years months z m d u t year index e f b i = rw (i, b .year-is, b .month-is, e, f)
 
 -- ---- the start of the rest
 
@@ -136,7 +123,7 @@ moved-months y s t m d u k h e f g =
 pub rest-start-is : (forward leap : Bool) (y : ℤ) (m d u k months n most s : ℕ) → 1 ≤ m → y ≡ u ⊖ yearBias →
     k ⊖ 0 ≡ ((12 * u + (m - 1)) ⊖ 0) +ℤ directed forward months → leap ≡ leapYear ((k / 12) ⊖ yearBias) →
     most ≡ getD (monthLengths leap) (k % 12 + 1 - 1) 0 → n ⊖ dayBias ≡ dayFromMonth ((k / 12) ⊖ yearBias) (k % 12) →
-    s ≡ clampTo most d → 1 ≤ s → s ≤ most → epochDays (restStart forward (date y m d) 0 months) ≡ (n + s) ⊖ (dayBias + 1)
+    s ≡ clampTo most d → 1 ≤ s → s ≤ most → epochDays (restStart forward (date y m d) 0 months) ≡ (n + s - 1) ⊖ dayBias
 unfolding restStart
 rest-start-is forward leap y m d u k months n most s h e f g i j l low high =
     let z : ℤ = (k / 12) ⊖ yearBias in

@@ -1,4 +1,4 @@
--- What the sum does when nothing is refused on the way, and that it goes back from its answer. Assumes nothing.
+-- What the sum does when nothing is refused on the way, and that it goes back from its answer.
 use Prim.Native.Nat.{ℕ, _+_, _-_, _^_, _≤_, _<_}
 use native.Mathlib.Omega.{arith}
 use mathlib.Core.Path.{_≡_, refl, sym, _∙_, ap}
@@ -6,7 +6,7 @@ use mathlib.Core.Bool.{Bool, true, false, cond}
 use borrow.Author.Tests.{le-leb, lt-leb}
 use lib.IntN.{ℤ, pos, negℤ, _+ℤ_, _*ℤ_}
 use lib.Signed.{ltZ, _≤ℤ_}
-use Rattle.refusal.specs.Answer.{Answer, given, refused, check, numberOf}
+use Rattle.refusal.specs.Answer.{given, refused, check}
 use Rattle.refusal.proofs.Answers.{given-inj, never}
 use Rattle.whole.specs.Whole.{fdiv}
 use Rattle.whole.proofs.Laws.{ints, read-add}
@@ -128,9 +128,9 @@ module _ (d : IsoDate) (t : DateDuration) (overflow : Overflow) where
   abbrev moved : IsoDate
   moved = clampedYear (movedBy d (t .years) (t .months))
 
-  pub sum-date : (checked : Answer (Unit {0})) (n r : ℕ) → checked ≡ refused n → r ≡ numberOf checked → checked ≡ dateLimits d → refused r ≡ dateSum d t overflow
+  pub sum-date : (n : ℕ) → refused n ≡ dateLimits d → refused n ≡ dateSum d t overflow
   unfolding dateSum
-  sum-date checked n r e f g = rw (f, ← g, e)
+  sum-date n e = rw (← e)
 
   pub sum-duration : given tt ≡ dateLimits d → isValidDuration t ≡ false → refused 8 ≡ dateSum d t overflow
   unfolding dateSum
@@ -146,15 +146,13 @@ module _ (d : IsoDate) (t : DateDuration) (overflow : Overflow) where
   sum-is start e f g = rw (← e, f, ← g)
 
 module _ (one two : IsoDate) (unit : TemporalUnit) where
-  pub difference-first : (checked : Answer (Unit {0})) (n r : ℕ) → checked ≡ refused n → r ≡ numberOf checked → checked ≡ dateLimits one →
-      refused r ≡ dateDifference one two unit
+  pub difference-first : (n : ℕ) → refused n ≡ dateLimits one → refused n ≡ dateDifference one two unit
   unfolding dateDifference
-  difference-first checked n r e f g = rw (f, ← g, e)
+  difference-first n e = rw (← e)
 
-  pub difference-second : (checked : Answer (Unit {0})) (n r : ℕ) → given tt ≡ dateLimits one → checked ≡ refused n → r ≡ numberOf checked →
-      checked ≡ dateLimits two → refused r ≡ dateDifference one two unit
+  pub difference-second : (n : ℕ) → given tt ≡ dateLimits one → refused n ≡ dateLimits two → refused n ≡ dateDifference one two unit
   unfolding dateDifference
-  difference-second checked n r h e f g = rw (f, ← h, ← g, e)
+  difference-second n e f = rw (← e, ← f)
 
   pub difference-unit : (rank : ℕ) → given tt ≡ dateLimits one → given tt ≡ dateLimits two → rank ≡ unitRank unit → 3 < rank → refused 5 ≡ dateDifference one two unit
   unfolding dateDifference

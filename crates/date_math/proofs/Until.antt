@@ -9,7 +9,7 @@ use borrow.Author.Tests.{lt-ltb, le-ltb, ltb-true, ltb-false, leb-true, leb-fals
 use lib.Dec.{ltb, leb}
 use lib.IntN.{ℤ, pos, negℤ, natAbs, _+ℤ_, _-ℤ_, _*ℤ_}
 use lib.Signed.{ltZ}
-use Rattle.whole.specs.Whole.{_⊖_}
+use Rattle.whole.specs.Whole.{apart, _⊖_}
 use Rattle.whole.proofs.Laws.{ints, size-of, whole, range-of, read-add, read-neg, read-times}
 use Rattle.whole.proofs.Tests.{alike}
 use Rattle.iso_date.specs.Proposal.{epochDays, epochDaysToISODate, isValidISODate}
@@ -21,7 +21,7 @@ use Rattle.date_duration.specs.declared.DateDuration.{DateDuration}
 use Rattle.options.specs.declared.Unit.{Unit as TemporalUnit}
 use Rattle.date_math.specs.Proposal.{isLater, isoDateSurpasses, directed, movedBy, inYears, addDaysToISODate, yearsUntil, monthsUntil, restStart, daysUntil, yearsFound, monthsFound, weeksFound, dateUntil, calendarDateUntil, countsYears, countsMonths, countsWeeks}
 use Rattle.date_math.specs.Claims.{Ahead}
-use Rattle.date_math.specs.Inner.{placeOf, placeBias, yearsIn, monthsIn, weeksIn, apart}
+use Rattle.date_math.specs.Inner.{placeOf, placeBias, yearsIn, monthsIn, weeksIn}
 use Rattle.date_math.proofs.Kept.{kept-is}
 use Rattle.date_math.proofs.Places.{later-place, place-years, moved-proper, years-proper, place-moved-on, directed-times, split-at, surpasses-by, beyond-is, surpasses-is}
 use Rattle.date_math.proofs.Order.{valid-proper, later-day}
@@ -284,7 +284,7 @@ years-near one two a b u v p q e f g h =
 module _ (one two : IsoDate) (unit : TemporalUnit) (v : isValidISODate one ≡ true) (w : isValidISODate two ≡ true)
     (a b y m s t rest k : ℕ) (from : placeOf one ≡ a ⊖ placeBias) (to : placeOf two ≡ b ⊖ placeBias)
     (years : y ≡ yearsIn unit (apart a b)) (months : m ≡ monthsIn unit (apart a b))
-    (start : epochDays (restStart (leb a b) one 0 (12 * y + m)) ≡ s ⊖ (dayBias + 1)) (end : epochDays two ≡ t ⊖ (dayBias + 1))
+    (start : epochDays (restStart (leb a b) one 0 (12 * y + m)) ≡ s ⊖ dayBias) (end : epochDays two ≡ t ⊖ dayBias)
     (days : rest ≡ apart s t) (weeks : k ≡ weeksIn unit rest) where
   pub put-together : duration (directed (leb a b) y) (directed (leb a b) m) (directed (leb a b) k) (directed (leb a b) (rest - 7 * k)) ≡
       calendarDateUntil one two unit
@@ -294,4 +294,4 @@ module _ (one two : IsoDate) (unit : TemporalUnit) (v : isValidISODate one ≡ t
       let begins = rw (fold-years (leb a b) one (yearsIn unit (apart a b)) (monthsIn unit (apart a b))) at (rw (years, months) at start) in
       rw (years, months, weeks, days)
       (sym (difference-is (leb a b) one two unit v w (apart a b) (apart s t) far
-      (left-of (leb a b) s t (dayBias + 1) (epochDays (restStart (leb a b) one (yearsIn unit (apart a b)) (monthsIn unit (apart a b)))) (epochDays two) begins end (lies .1))))
+      (left-of (leb a b) s t dayBias (epochDays (restStart (leb a b) one (yearsIn unit (apart a b)) (monthsIn unit (apart a b)))) (epochDays two) begins end (lies .1))))

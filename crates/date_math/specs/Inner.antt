@@ -23,7 +23,3 @@ monthsIn unit gap = cond (countsMonths unit) ((gap - 384 * yearsIn unit gap) / 3
 
 unfoldable pub weeksIn : TemporalUnit → ℕ → ℕ
 weeksIn unit rest = cond (countsWeeks unit) (rest / 7) 0
-
--- how far apart two naturals are
-abbrev pub apart : ℕ → ℕ → ℕ
-apart a b = (a - b) + (b - a)

@@ -5,41 +5,42 @@ use date_duration::DateDuration;
 use iso_date::DateResult;
 use iso_date::IsoDate;
 use iso_date::inner::MONTH_BIAS;
+use iso_date::inner::YEAR_BIAS;
 use iso_date::inner::day_up;
 use iso_date::inner::month_start;
 use iso_date::inner::year_up;
+use options::MONTH_RANK;
 use options::Overflow;
 use options::Unit;
+use options::WEEK_RANK;
+use options::YEAR_RANK;
+use whole::inner::abs_diff;
+use whole::inner::directed;
 use whole::inner::raise;
 ghost use mathlib.Core.Path.{_≡_};
 ghost use mathlib.Core.Bool.{true};
 ghost use Prim.Native.Nat.{_+_, _-_, _*_, _/_, _^_, _<_, _≤_};
-ghost use lib.IntN.{pos, natAbs, _+ℤ_, _*ℤ_};
+ghost use lib.IntN.{natAbs, _+ℤ_};
 ghost use Rattle.whole.specs.Whole.{_⊖_};
 ghost use Rattle.iso_date.specs.Proposal.{isValidISODate, epochDays};
-ghost use Rattle.iso_date.specs.Paper.{ofDate, regulateDate, dayToDate};
+ghost use Rattle.iso_date.specs.Paper.{ofDate, regulateDate};
 ghost use Rattle.iso_date.specs.Inner.{dayBias};
 ghost use Rattle.date_duration.specs.Proposal.{duration};
 ghost use Rattle.date_math.specs.Proposal.{movedBy, directed, restStart, calendarDateUntil};
 ghost use Rattle.date_math.specs.Paper.{clampedYear};
-ghost use Rattle.date_math.specs.Inner.{placeOf, placeBias, yearsIn, monthsIn, weeksIn, apart};
+ghost use Rattle.date_math.specs.Inner.{placeOf, placeBias, yearsIn, monthsIn, weeksIn};
 
 const PLACES_PER_MONTH: u64 = 32;
 
 const PLACES_PER_YEAR: u64 = 384;
-
-// Years, months and weeks of a duration are below this in size, and its days below the other.
-const PART_BIAS: u64 = 4_294_967_296;
-
-const DAYS_BIAS: u64 = 274_877_906_944;
 
 // A date moved by years and months, the year clamped to 32 bits, and regulated.
 pub fn moved(date: IsoDate, years: i64, months: i64, overflow: Overflow) -> DateResult
     requires { ⌜ (natAbs years < 2 ^ 32) × (natAbs months < 2 ^ 32) ⌝ }
     ensures { λ r. ⌜ ofDate r ≡ regulateDate (clampedYear (movedBy date years months)) overflow ⌝ }
 {
-    let u = year_up(date.year) + raise(years, PART_BIAS) - PART_BIAS;
-    let m = raise(months, MONTH_BIAS) + date.month as u64;
+    let u = raise(date.year as i64 + years, YEAR_BIAS);
+    let m = raise(date.month as i64 + months, MONTH_BIAS);
     let b = iso_date::inner::balance_up(u, m);
     IsoDate::regulate(
         iso_date::inner::year_down(b.year),
@@ -49,33 +50,12 @@ pub fn moved(date: IsoDate, years: i64, months: i64, overflow: Overflow) -> Date
     )
 }
 
-// A date moved by weeks and days: 4 past the balanced range.
-pub fn add_days(date: IsoDate, weeks: i64, days: i64) -> DateResult
-    requires { ⌜ (isValidISODate date ≡ true) × ((natAbs weeks < 2 ^ 32) × (natAbs days < 2 ^ 38)) ⌝ }
-    ensures { λ r. ⌜ ofDate r ≡ dayToDate (epochDays date +ℤ (days +ℤ pos 7 *ℤ weeks)) ⌝ }
-{
-    let n = day_up(date) + raise(days, DAYS_BIAS) + 7 * raise(weeks, PART_BIAS);
-    IsoDate::from_epoch_days(whole::inner::lower(
-        n,
-        iso_date::inner::DAY_BIAS + 1 + DAYS_BIAS + 7 * PART_BIAS,
-    ))
-}
-
 // Places are compared where dates would be: their order is that of the triples.
 pub fn place(date: IsoDate) -> u64
     requires { ⌜ isValidISODate date ≡ true ⌝ }
     ensures { λ r. ⌜ (placeOf date ≡ r ⊖ placeBias) × ((2 ^ 41 ≤ r) × (r < 2 ^ 42)) ⌝ }
 {
     PLACES_PER_YEAR * year_up(date.year) + PLACES_PER_MONTH * date.month as u64 + date.day as u64
-}
-
-pub fn distance(a: u64, b: u64) -> u64
-    ensures { λ r. ⌜ r ≡ apart a b ⌝ }
-{
-    if a < b {
-        return b - a;
-    }
-    a - b
 }
 
 // The candidate years are tried from one less than the years that the dates are apart, which cannot have passed.
@@ -116,12 +96,12 @@ pub struct Trial {
 }
 
 // The years and months within a gap of places between dates that are so many years apart. Under month the years join the months.
-fn tried(unit: Unit, gap: u64, years: u64) -> Trial
+fn years_and_months(unit: Unit, gap: u64, years: u64) -> Trial
     requires { ⌜ (384 * years < gap + 384) × (gap < 2 ^ 42) ⌝ }
     ensures { λ r. ⌜ ((r .years ≡ yearsIn unit gap) × (r .months ≡ monthsIn unit gap)) × (384 * (r .years) + 32 * (r .months) ≤ gap) ⌝ }
 {
     let rank = unit.rank();
-    if rank > 1 {
+    if rank > MONTH_RANK {
         return Trial {
             years: 0,
             months: 0,
@@ -129,7 +109,7 @@ fn tried(unit: Unit, gap: u64, years: u64) -> Trial
     }
     let found = kept_years(gap, years);
     let months = kept_months(gap - PLACES_PER_YEAR * found);
-    if rank == 0 {
+    if rank == YEAR_RANK {
         return Trial {
             years: found,
             months,
@@ -155,7 +135,7 @@ fn shifted(forward: bool, from: u64, months: u64) -> u64
 // The day number of the start of the rest, as a natural: the date moved by months, its day constrained.
 fn rest_start(date: IsoDate, forward: bool, months: u64) -> u64
     requires { ⌜ (isValidISODate date ≡ true) × (months < 2 ^ 36) ⌝ }
-    ensures { λ r. ⌜ (epochDays (restStart forward date 0 months) ≡ r ⊖ (dayBias + 1)) × (r < 2 ^ 51) ⌝ }
+    ensures { λ r. ⌜ (epochDays (restStart forward date 0 months) ≡ r ⊖ dayBias) × (r < 2 ^ 51) ⌝ }
 {
     let month = shifted(
         forward,
@@ -166,40 +146,29 @@ fn rest_start(date: IsoDate, forward: bool, months: u64) -> u64
     let i = month % 12;
     let leap = iso_date::inner::is_leap(u);
     let most = iso_date::inner::month_days(leap, (i + 1) as u8);
-    month_start(u, i) + iso_date::inner::clamp_to(most, date.day) as u64
-}
-
-// Counts are worked out as naturals; the sign of the whole difference is put to them last.
-pub fn signed(forward: bool, n: u64) -> i64
-    requires { ⌜ n < 2 ^ 63 ⌝ }
-    ensures { λ r. ⌜ r ≡ directed forward n ⌝ }
-{
-    if forward {
-        return whole::inner::plus(n);
-    }
-    whole::inner::negated(n)
+    month_start(u, i) + iso_date::inner::clamp_to(most, date.day) as u64 - 1
 }
 
 // Under every unit but week the rest stays days.
 fn weeks_of(unit: Unit, rest: u64) -> u64
     ensures { λ r. ⌜ (r ≡ weeksIn unit rest) × (7 * r ≤ rest) ⌝ }
 {
-    if unit.rank() == 2 {
+    if unit.rank() == WEEK_RANK {
         return rest / 7;
     }
     0
 }
 
-// The four counts take the same sign, so that no part opposes another.
+// Counts are worked out as naturals, and the direction is put to them last. The four take the same sign, so that no part opposes another.
 fn parts(forward: bool, found: Trial, weeks: u64, days: u64) -> DateDuration
     requires { ⌜ (((found .years) < 2 ^ 63) × ((found .months) < 2 ^ 63)) × ((weeks < 2 ^ 63) × (days < 2 ^ 63)) ⌝ }
     ensures { λ r. ⌜ r ≡ duration (directed forward (found .years)) (directed forward (found .months)) (directed forward weeks) (directed forward days) ⌝ }
 {
     DateDuration {
-        years: signed(forward, found.years),
-        months: signed(forward, found.months),
-        weeks: signed(forward, weeks),
-        days: signed(forward, days),
+        years: directed(forward, found.years),
+        months: directed(forward, found.months),
+        weeks: directed(forward, weeks),
+        days: directed(forward, days),
     }
 }
 
@@ -211,10 +180,10 @@ pub fn difference(one: IsoDate, two: IsoDate, unit: Unit) -> DateDuration
     let from = place(one);
     let to = place(two);
     let forward = from <= to;
-    let years = distance(year_up(one.year), year_up(two.year));
-    let found = tried(unit, distance(from, to), years);
+    let years = abs_diff(year_up(one.year), year_up(two.year));
+    let found = years_and_months(unit, abs_diff(from, to), years);
     let start = rest_start(one, forward, 12 * found.years + found.months);
-    let rest = distance(start, day_up(two));
+    let rest = abs_diff(start, day_up(two));
     let weeks = weeks_of(unit, rest);
     parts(forward, found, weeks, rest - 7 * weeks)
 }

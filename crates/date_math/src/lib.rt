@@ -6,6 +6,7 @@ use date_duration::DurationResult;
 use iso_date::DateResult;
 use iso_date::IsoDate;
 use iso_date::LimitResult;
+use options::DAY_RANK;
 use options::Overflow;
 use options::Unit;
 ghost use mathlib.Core.Path.{_≡_};
@@ -18,10 +19,9 @@ ghost use Rattle.date_math.specs.Paper.{dateSum, dateDifference};
 pub fn add_date_duration(date: IsoDate, duration: DateDuration, overflow: Overflow) -> DateResult
     ensures { λ r. ⌜ ofDate r ≡ dateSum date duration overflow ⌝ }
 {
-    let checked = date.check_within_limits();
-    let LimitResult::Within = checked else {
-        return DateResult::Refused(iso_date::inner::refused_by(checked));
-    };
+    if let LimitResult::Refused(n) = date.check_within_limits() {
+        return DateResult::Refused(n);
+    }
     if !duration.is_valid() {
         return DateResult::Refused(refusal::DURATION);
     }
@@ -32,7 +32,7 @@ pub fn add_date_duration(date: IsoDate, duration: DateDuration, overflow: Overfl
     let LimitResult::Within = start.check_within_limits() else {
         return DateResult::Refused(refusal::DATE_LIMITS);
     };
-    inner::add_days(start, duration.weeks, duration.days)
+    iso_date::inner::add_days(start, duration.weeks, duration.days)
 }
 
 // The years, months, weeks and days from one date to another, as far as the largest unit goes: the first date's fields (1) and limits
@@ -40,15 +40,13 @@ pub fn add_date_duration(date: IsoDate, duration: DateDuration, overflow: Overfl
 pub fn diff_iso_date(one: IsoDate, two: IsoDate, unit: Unit) -> DurationResult
     ensures { λ r. ⌜ ofDuration r ≡ dateDifference one two unit ⌝ }
 {
-    let first = one.check_within_limits();
-    let LimitResult::Within = first else {
-        return DurationResult::Refused(iso_date::inner::refused_by(first));
-    };
-    let second = two.check_within_limits();
-    let LimitResult::Within = second else {
-        return DurationResult::Refused(iso_date::inner::refused_by(second));
-    };
-    if unit.rank() > 3 {
+    if let LimitResult::Refused(n) = one.check_within_limits() {
+        return DurationResult::Refused(n);
+    }
+    if let LimitResult::Refused(n) = two.check_within_limits() {
+        return DurationResult::Refused(n);
+    }
+    if unit.rank() > DAY_RANK {
         return DurationResult::Refused(refusal::UNIT);
     }
     DurationResult::Duration(inner::difference(one, two, unit))

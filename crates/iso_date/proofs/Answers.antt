@@ -1,19 +1,21 @@
--- How the answers of the rules come out of their checks, one law for each way through the code. Assumes nothing.
+-- How the answers of the rules come out of their checks, one law for each way through the code.
 use Prim.Native.Nat.{ℕ, _+_, _-_, _/_, _%_, _^_, _≤_, _<_}
 use native.Mathlib.Omega.{arith}
 use mathlib.Core.Path.{_≡_, refl, sym, _∙_, ap}
-use mathlib.Core.Bool.{Bool, true, false, _&&_}
-use borrow.Author.Tests.{le-leb, lt-leb}
-use lib.Dec.{leb}
+use mathlib.Core.Bool.{Bool, true, false, _&&_, _||_}
+use borrow.Author.Tests.{le-leb, lt-leb, ltb-true, ltb-false}
+use lib.Dec.{leb, ltb}
 use lib.ListN.{getD}
-use lib.IntN.{ℤ, pos, negℤ, natAbs, _+ℤ_, _-ℤ_, _*ℤ_}
+use lib.IntN.{ℤ, pos, negℤ, natAbs, _+ℤ_, _-ℤ_, _*ℤ_, +ℤ-assoc}
 use lib.Signed.{ltZ, leZ, _≤ℤ_, _<ℤ_}
+use mir.Syntax.{w64}
+use mir.Val.{SFits}
 use Rattle.options.specs.Units.{nsPerDay}
 use Rattle.refusal.specs.Answer.{given, refused, check}
 use Rattle.refusal.proofs.Answers.{given-inj, never}
 use Rattle.whole.specs.Whole.{_⊖_, fmod, clampZ}
 use Rattle.whole.proofs.Laws.{whole, ints, ⊖-same, size-of, range-of, read-add, read-diff, read-times}
-use Rattle.whole.proofs.Tests.{alike, both, and-false}
+use Rattle.whole.proofs.Tests.{alike, both, one-of, neither, and-false}
 use Rattle.iso_date.specs.Proposal.{date, leapYear, monthLengths, isoDaysInMonth, dayFromMonth, isoDateToEpochDays, epochDays, epochDaysToISODate, isValidISODate, balancedYear, constrainISODate, clampTo, nsWithinLimits, momentWithinLimits, isoDateWithinLimits, noon, nsLimit}
 use Rattle.iso_date.specs.Paper.{monthLength, balanced, yearMonth, balanceYearMonth, dateToDay, dayToDate, regulateDate, makeDate, dateLimits, balanceDate}
 use Rattle.iso_date.specs.Inner.{yearBias, monthBias, dayBias, Balances}
@@ -51,6 +53,12 @@ in-range n a b =
     let t : leZ (negℤ (pos 100000001)) n ≡ true = omega (arith, ints) in
     let s : leZ n (pos 100000001) ≡ true = omega (arith, ints) in
     rw (t, s)
+
+pub read-balanced : (n : ℤ) → balanced n ≡ true → (negℤ (pos 100000001) ≤ℤ n) × (n ≤ℤ pos 100000001)
+unfolding balanced
+read-balanced n e =
+    let b = both (leZ (negℤ (pos 100000001)) n) (leZ n (pos 100000001)) e in
+    (omega (arith, ints, b .0), omega (arith, ints, b .1))
 
 -- ---- the limits of a moment, by its day and its nanosecond of the day
 
@@ -96,36 +104,40 @@ noon-in n a b =
 -- ---- valid fields
 
 module _ (y : ℤ) (m d : ℕ) where
-  pub month-zero : m < 1 → isValidISODate (date y m d) ≡ false
+  pub fields-bad : ((ltb m 1 || ltb 12 m) || ltb d 1) ≡ true → isValidISODate (date y m d) ≡ false
   unfolding isValidISODate
-  month-zero h = simp (lt-leb 1 m h)
+  fields-bad e =
+      one-of (ltb m 1 || ltb 12 m) (ltb d 1) e
+      (λ f. one-of (ltb m 1) (ltb 12 m) f (λ g. simp (lt-leb 1 m (ltb-true m 1 g)))
+      (λ g. let h = ltb-true 12 m g in simp (lt-leb m 12 h, le-leb 1 m (omega arith))))
+      (λ f. simp (lt-leb 1 d (ltb-true d 1 f)) (and-false (leb 1 m && leb m 12)))
 
-  pub month-past : 12 < m → isValidISODate (date y m d) ≡ false
-  unfolding isValidISODate
-  month-past h = simp (lt-leb m 12 h, le-leb 1 m (omega arith))
+  pub in-year : ((ltb m 1 || ltb 12 m) || ltb d 1) ≡ false → (1 ≤ m) × (m ≤ 12)
+  in-year e =
+      let g = neither (ltb m 1) (ltb 12 m) (neither (ltb m 1 || ltb 12 m) (ltb d 1) e .0) in
+      (ltb-false m 1 (g .0), ltb-false 12 m (g .1))
 
-  pub day-zero : d < 1 → isValidISODate (date y m d) ≡ false
+  pub day-decides : ((ltb m 1 || ltb 12 m) || ltb d 1) ≡ false → leb d (isoDaysInMonth y m) ≡ isValidISODate (date y m d)
   unfolding isValidISODate
-  day-zero h = simp (lt-leb 1 d h) (and-false (leb 1 m && leb m 12))
-
-  pub day-decides : 1 ≤ m → m ≤ 12 → 1 ≤ d → leb d (isoDaysInMonth y m) ≡ isValidISODate (date y m d)
-  unfolding isValidISODate
-  day-decides a b c = simp (le-leb 1 m a, le-leb m 12 b, le-leb 1 d c)
+  day-decides e =
+      let f = neither (ltb m 1 || ltb 12 m) (ltb d 1) e .1 in
+      simp (le-leb 1 m (in-year e .0), le-leb m 12 (in-year e .1), le-leb 1 d (ltb-false d 1 f))
 
 -- ---- month lengths
 
 module _ (y : ℤ) (m : ℕ) where
-  pub no-month-low : m < 1 → refused 1 ≡ monthLength y m
+  pub no-month : (ltb m 1 || ltb 12 m) ≡ true → refused 1 ≡ monthLength y m
   unfolding monthLength
-  no-month-low h = simp (lt-leb 1 m h)
+  no-month e =
+      one-of (ltb m 1) (ltb 12 m) e (λ g. simp (lt-leb 1 m (ltb-true m 1 g)))
+      (λ g. let h = ltb-true 12 m g in simp (lt-leb m 12 h, le-leb 1 m (omega arith)))
 
-  pub no-month-high : 12 < m → refused 1 ≡ monthLength y m
-  unfolding monthLength
-  no-month-high h = simp (lt-leb m 12 h, le-leb 1 m (omega arith))
+  pub a-month : (ltb m 1 || ltb 12 m) ≡ false → (1 ≤ m) × (m ≤ 12)
+  a-month e = let g = neither (ltb m 1) (ltb 12 m) e in (ltb-false m 1 (g .0), ltb-false 12 m (g .1))
 
-  pub month-length : (r : ℕ) → 1 ≤ m → m ≤ 12 → r ≡ isoDaysInMonth y m → given r ≡ monthLength y m
+  pub month-length : (r : ℕ) → (ltb m 1 || ltb 12 m) ≡ false → r ≡ isoDaysInMonth y m → given r ≡ monthLength y m
   unfolding monthLength
-  month-length r a b e = simp (le-leb 1 m a, le-leb m 12 b, e)
+  month-length r e f = let g = a-month e in simp (le-leb 1 m (g .0), le-leb m 12 (g .1), f)
 
 -- ---- date to day, and day to date
 
@@ -193,56 +205,108 @@ length-of-year y u m r leap e f g = rw (e, ← f, g)
 
 -- the day number of a valid date, from the natural of the first day of its month
 pub day-of-date : (y : ℤ) (m d u n : ℕ) → Valid y m d → y ≡ u ⊖ yearBias → n ⊖ dayBias ≡ dayFromMonth (u ⊖ yearBias) (m - 1) →
-    epochDays (date y m d) ≡ (n + d) ⊖ (dayBias + 1)
+    epochDays (date y m d) ≡ (n + d - 1) ⊖ dayBias
 day-of-date y m d u n v e f =
     plain-month y m (pos d) (v .month-low) (v .month-high) ∙ go ∙
-    ⊖-same (n + d + 0) (dayBias + 0 + 1) (n + d) (dayBias + 1) (omega arith)
+    ⊖-same (n + d + 0) (dayBias + 0 + 1) (n + d - 1) dayBias (omega (arith, v .day-low))
   where
     go : dayFromMonth y (m - 1) +ℤ pos d -ℤ pos 1 ≡ (n + d + 0) ⊖ (dayBias + 0 + 1)
     go = rw (e, ← f) (simp whole (omega arith))
 
--- the exact count that balancing goes by: the first day of the month, from the code's naturals, plus day, minus 1
-module _ (y m day : ℤ) (u t year index n : ℕ) (e : y ≡ u ⊖ yearBias) (f : m ≡ t ⊖ monthBias) (b : Balances u t year index)
-    (g : n ⊖ dayBias ≡ dayFromMonth (year ⊖ yearBias) index) where
-  count-is : isoDateToEpochDays y (m -ℤ pos 1) day ≡ (n ⊖ dayBias) +ℤ day -ℤ pos 1
+pub lowered-small : (z : ℤ) (n k : ℕ) → z ≡ n ⊖ dayBias → n < k → dayBias < k → natAbs z < k
+lowered-small z n k e h l = omega (arith, ints, size-of z, range-of z, read-diff n dayBias)
+
+-- a day number below 2^51 has room for weeks and days
+module _ (weeks days : ℤ) (few : (natAbs weeks < 2 ^ 32) × (natAbs days < 2 ^ 38)) where
+  pub weeks-fit : SFits w64 (pos 7 *ℤ weeks)
+  weeks-fit = omega (arith, ints, read-times 7 weeks, size-of weeks, range-of (pos 7 *ℤ weeks))
+
+  pub days-fit : SFits w64 (days +ℤ pos 7 *ℤ weeks)
+  days-fit =
+      omega (arith, ints, read-times 7 weeks, size-of weeks, size-of days, read-add days (pos 7 *ℤ weeks), range-of (days +ℤ pos 7 *ℤ weeks))
+
+  pub moved-fits : (n : ℤ) → natAbs n < 2 ^ 51 → SFits w64 (n +ℤ (days +ℤ pos 7 *ℤ weeks))
+  moved-fits n small =
+      let more : ℤ = days +ℤ pos 7 *ℤ weeks in
+      omega (
+        arith,
+        ints,
+        read-times 7 weeks,
+        size-of weeks,
+        size-of days,
+        size-of n,
+        read-add days (pos 7 *ℤ weeks),
+        read-add n more,
+        range-of (n +ℤ more),
+      )
+
+-- the first day of a month of any number, from the code's naturals
+pub month-first-is : (y m first : ℤ) (u t year index n : ℕ) → y ≡ u ⊖ yearBias → m ≡ t ⊖ monthBias → Balances u t year index →
+    n ⊖ dayBias ≡ dayFromMonth (year ⊖ yearBias) index → first ≡ n ⊖ dayBias → first ≡ dayFromMonth (balancedYear y m) (fmod (m -ℤ pos 1) 12)
+month-first-is y m first u t year index n e f b g h =
+    let i : fmod (m -ℤ pos 1) 12 ≡ index = omega (arith, rw (sym f) at (b .month-is)) in
+    let j : balancedYear y m ≡ year ⊖ yearBias = rw (e, f) (sym (b .year-is)) in
+    rw (j, i) (h ∙ g)
+
+-- a day so far away that the first day of a month and a carry do not count
+abbrev pub isFar : ℤ → Bool
+isFar day = ltZ day (negℤ (pos 1000000000000000000)) || ltZ (pos 1000000000000000000) day
+
+-- the exact count that balancing goes by: the first day of the month, plus day, minus 1
+module _ (y m first day carry : ℤ) (is : first ≡ dayFromMonth (balancedYear y m) (fmod (m -ℤ pos 1) 12)) where
+  count-is : isoDateToEpochDays y (m -ℤ pos 1) (day +ℤ carry) ≡ first +ℤ (day +ℤ carry -ℤ pos 1)
   unfolding isoDateToEpochDays
-  count-is =
-      let i : fmod (m -ℤ pos 1) 12 ≡ index = omega (arith, rw (sym f) at (b .month-is)) in
-      let j : balancedYear y m ≡ year ⊖ yearBias = rw (e, f) (sym (b .year-is)) in
-      rw (j, i, g)
+  count-is = rw (← is) (+ℤ-assoc first (day +ℤ carry) (negℤ (pos 1)))
 
-  pub count-low : n < 2 ^ 50 → day <ℤ negℤ (pos 900000000000000000) → refused 4 ≡ balanceDate y m day
+  pub count-given : dayToDate (first +ℤ (day +ℤ carry -ℤ pos 1)) ≡ balanceDate y m (day +ℤ carry)
   unfolding balanceDate
-  count-low h k = rw count-is (date-far _ (too-low _ (omega (arith, ints, read-diff n dayBias, read-add (n ⊖ dayBias) day, read-add ((n ⊖ dayBias) +ℤ day) (negℤ (pos 1))))))
+  count-given = ap dayToDate (sym count-is)
 
-  pub count-high : n < 2 ^ 50 → pos 900000000000000000 <ℤ day → refused 4 ≡ balanceDate y m day
+  pub count-far : natAbs first < 2 ^ 50 → natAbs carry < 2 ^ 52 → isFar day ≡ true → refused 4 ≡ balanceDate y m (day +ℤ carry)
   unfolding balanceDate
-  count-high h k = rw count-is (date-far _ (too-high _ (omega (arith, ints, read-diff n dayBias, read-add (n ⊖ dayBias) day, read-add ((n ⊖ dayBias) +ℤ day) (negℤ (pos 1))))))
+  count-far near few far =
+      let sum : ℤ = day +ℤ carry -ℤ pos 1 in
+      let s = read-add day carry in
+      let t = read-add (day +ℤ carry) (negℤ (pos 1)) in
+      let w = read-add first sum in
+      rw count-is
+      (date-far (first +ℤ sum)
+      (one-of (ltZ day (negℤ (pos 1000000000000000000))) (ltZ (pos 1000000000000000000) day) far
+      (λ l. too-low (first +ℤ sum) (omega (arith, ints, size-of first, size-of carry)))
+      (λ l. too-high (first +ℤ sum) (omega (arith, ints, size-of first, size-of carry)))))
 
-  pub count-sum : (z : ℤ) (s k : ℕ) → day ≡ s ⊖ k → z ≡ (n + s) ⊖ (dayBias + (k + 1)) → dayToDate z ≡ balanceDate y m day
-  unfolding balanceDate
-  count-sum z s k h i =
-      let j : (n + s) ⊖ (dayBias + (k + 1)) ≡ (n ⊖ dayBias) +ℤ day -ℤ pos 1 = rw h (simp whole (omega arith)) in
-      ap dayToDate (i ∙ j ∙ sym count-is)
+-- and that it has room in 64 bits
+module _ (day carry : ℤ) (few : natAbs carry < 2 ^ 52) (near : isFar day ≡ false) where
+  day-near : (negℤ (pos 1000000000000000000) ≤ℤ day) × (day ≤ℤ pos 1000000000000000000)
+  day-near =
+      let l = neither (ltZ day (negℤ (pos 1000000000000000000))) (ltZ (pos 1000000000000000000) day) near in
+      (omega (arith, ints, l .0), omega (arith, ints, l .1))
 
--- a carry is small beside such a day
-module _ (day carry : ℤ) (few : natAbs carry < 2 ^ 52) where
-  pub carried-low : day <ℤ negℤ (pos 1000000000000000000) → (day +ℤ carry) <ℤ negℤ (pos 900000000000000000)
-  carried-low h = omega (arith, ints, read-add day carry, size-of carry, range-of carry)
+  pub sum-fits : SFits w64 (day +ℤ carry)
+  sum-fits = omega (arith, ints, day-near, read-add day carry, size-of carry, range-of (day +ℤ carry))
 
-  pub carried-high : pos 1000000000000000000 <ℤ day → pos 900000000000000000 <ℤ (day +ℤ carry)
-  carried-high h = omega (arith, ints, read-add day carry, size-of carry, range-of carry)
+  pub less-fits : SFits w64 (day +ℤ carry -ℤ pos 1)
+  less-fits =
+      let sum : ℤ = day +ℤ carry -ℤ pos 1 in
+      omega (arith, ints, day-near, read-add day carry, read-add (day +ℤ carry) (negℤ (pos 1)), size-of carry, range-of sum)
 
--- as a natural it is at most twice what it was raised by
-pub day-raised : (day : ℤ) (r : ℕ) → day ≤ℤ pos 1000000000000000000 → day ≡ r ⊖ 1000000000000000000 → r ≤ 2000000000000000000
-day-raised day r h e = omega (arith, ints, read-diff r 1000000000000000000)
+  pub count-fits : (first : ℤ) → natAbs first < 2 ^ 50 → SFits w64 (first +ℤ (day +ℤ carry -ℤ pos 1))
+  count-fits first h =
+      let sum : ℤ = day +ℤ carry -ℤ pos 1 in
+      let t = read-add (day +ℤ carry) (negℤ (pos 1)) in
+      omega (arith, ints, day-near, read-add day carry, read-add first sum, size-of first, size-of carry, range-of (first +ℤ sum))
 
 -- ---- what the last test of the code decides
 
-pub limits-decide : (n : ℤ) → negℤ (pos 100000001) ≤ℤ n → leZ n (pos 100000000) ≡ momentWithinLimits n noon
-limits-decide n h =
-    alike (leZ n (pos 100000000)) (momentWithinLimits n noon) (λ e. noon-in n h (omega (arith, ints)))
-    (λ e. limits-high n noon (omega arith) (omega (arith, ints)))
+pub limits-decide : (n : ℤ) → (leZ (negℤ (pos 100000001)) n && leZ n (pos 100000000)) ≡ momentWithinLimits n noon
+limits-decide n =
+    alike _ (momentWithinLimits n noon)
+    (λ e. let b = both (leZ (negℤ (pos 100000001)) n) (leZ n (pos 100000000)) e in noon-in n (omega (arith, ints, b .0)) (omega (arith, ints, b .1)))
+    (λ e. go (leZ (negℤ (pos 100000001)) n) refl e)
+  where
+    go : (t : Bool) → leZ (negℤ (pos 100000001)) n ≡ t → (leZ (negℤ (pos 100000001)) n && leZ n (pos 100000000)) ≡ false → momentWithinLimits n noon ≡ false
+    go true e f = let g : leZ n (pos 100000000) ≡ false = rw e at f in limits-high n noon (omega arith) (omega (arith, ints))
+    go false e f = limits-low n noon (omega arith) (omega (arith, ints))
 
 -- a month has a day
 pub length-positive : (y : ℤ) (m : ℕ) → 1 ≤ m → m ≤ 12 → 1 ≤ isoDaysInMonth y m

@@ -6,8 +6,8 @@ use Rattle.refusal.specs.Answer.{Answer, given, refused}
 use Rattle.refusal.proofs.Answers.{one-result}
 use Rattle.iso_date.specs.Paper.{ofMonthLength, ofDay, ofDate, ofLimit}
 use Rattle.iso_date.specs.declared.IsoDate.{IsoDate}
-use Rattle.iso_date.specs.declared.MonthLength.{MonthLength}
-use Rattle.iso_date.specs.declared.MonthLength.the-variants as V0
+use Rattle.iso_date.specs.declared.MonthLengthResult.{MonthLengthResult}
+use Rattle.iso_date.specs.declared.MonthLengthResult.the-variants as V0
 use Rattle.iso_date.specs.declared.DayResult.{DayResult}
 use Rattle.iso_date.specs.declared.DayResult.the-variants as V1
 use Rattle.iso_date.specs.declared.DateResult.{DateResult}
@@ -15,15 +15,15 @@ use Rattle.iso_date.specs.declared.DateResult.the-variants as V2
 use Rattle.iso_date.specs.declared.LimitResult.{LimitResult}
 use Rattle.iso_date.specs.declared.LimitResult.the-variants as V3
 
-abbrev to-length : Answer ℕ → MonthLength
+abbrev to-length : Answer ℕ → MonthLengthResult
 to-length (given x) = V0.Days x
 to-length (refused n) = V0.Refused n
 
-length-back : (r : MonthLength) → to-length (ofMonthLength r) ≡ r
+length-back : (r : MonthLengthResult) → to-length (ofMonthLength r) ≡ r
 length-back (V0.Days x) = refl
 length-back (V0.Refused n) = refl
 
-pub one-length : (a : Answer ℕ) (r s : MonthLength) → ofMonthLength r ≡ a → ofMonthLength s ≡ a → r ≡ s
+pub one-length : (a : Answer ℕ) (r s : MonthLengthResult) → ofMonthLength r ≡ a → ofMonthLength s ≡ a → r ≡ s
 one-length = one-result ofMonthLength to-length length-back
 
 abbrev to-day : Answer ℤ → DayResult

@@ -11,8 +11,8 @@ use Rattle.iso_date.specs.declared.IsoDate.{IsoDate}
 use Rattle.iso_date.specs.declared.YearMonth.{YearMonth}
 use Rattle.options.specs.declared.Overflow.{Overflow}
 use Rattle.options.specs.declared.Overflow.the-variants.{Constrain, Reject}
-use Rattle.iso_date.specs.declared.MonthLength as MonthLength
-use Rattle.iso_date.specs.declared.MonthLength.the-variants as L
+use Rattle.iso_date.specs.declared.MonthLengthResult as MonthLengthResult
+use Rattle.iso_date.specs.declared.MonthLengthResult.the-variants as L
 use Rattle.iso_date.specs.declared.DayResult as DayResult
 use Rattle.iso_date.specs.declared.DayResult.the-variants as N
 use Rattle.iso_date.specs.declared.DateResult as DateResult
@@ -22,7 +22,7 @@ use Rattle.iso_date.specs.declared.LimitResult.the-variants as W
 
 -- ---- each enum's cases as number and values
 
-abbrev pub ofMonthLength : MonthLength.MonthLength → Answer ℕ
+abbrev pub ofMonthLength : MonthLengthResult.MonthLengthResult → Answer ℕ
 ofMonthLength (L.Days n) = given n
 ofMonthLength (L.Refused n) = refused n
 

@@ -2,17 +2,15 @@
 // day from the first day of that year; every year that a call can reach, and every day count that matters, is then a natural.
 use crate::DateResult;
 use crate::IsoDate;
-use crate::LimitResult;
 ghost use mathlib.Core.Path.{_≡_};
 ghost use mathlib.Core.Bool.{cond};
 ghost use Prim.Native.Nat.{_+_, _-_, _*_, _<_, _≤_, _^_};
 ghost use lib.ListN.{getD};
 ghost use mathlib.Core.Bool.{true};
-ghost use lib.IntN.{pos, negℤ, natAbs, _+ℤ_};
-ghost use Rattle.refusal.specs.Answer.{numberOf};
-ghost use Rattle.whole.specs.Whole.{_⊖_, clampZ};
-ghost use Rattle.iso_date.specs.Proposal.{leapYear, monthLengths, isoDaysInMonth, daysBeforeMonth, dayFromMonth, isValidISODate, epochDays, epochDaysToISODate, isoDateWithinLimits, clampTo};
-ghost use Rattle.iso_date.specs.Paper.{ofDate, ofLimit, balanceDate};
+ghost use lib.IntN.{pos, negℤ, natAbs, _+ℤ_, _-ℤ_, _*ℤ_};
+ghost use Rattle.whole.specs.Whole.{_⊖_, fmod, clampZ};
+ghost use Rattle.iso_date.specs.Proposal.{leapYear, monthLengths, isoDaysInMonth, daysBeforeMonth, dayFromMonth, isValidISODate, epochDays, epochDaysToISODate, isoDateWithinLimits, balancedYear, clampTo};
+ghost use Rattle.iso_date.specs.Paper.{ofDate, balanced, dayToDate, balanceDate};
 ghost use Rattle.iso_date.specs.Inner.{yearBias, monthBias, dayBias, yearStart, YearHolds, MonthHolds, Balances};
 
 pub const YEAR_BIAS: u64 = 8_000_000_000;
@@ -22,21 +20,17 @@ pub const DAY_BIAS: u64 = 2_921_940_719_528;
 // As many months as lie in 400,000,000 years, so that a month of 32 bits, or one moved by a duration, is a natural.
 pub const MONTH_BIAS: u64 = 4_800_000_000;
 
-// A day count is balanced from the first of these to the last.
-pub const FIRST_BALANCED: i64 = -100_000_001;
+// A day count is balanced up to this size.
+const MOST_BALANCED: i64 = 100_000_001;
 
-pub const LAST_BALANCED: i64 = 100_000_001;
+// A date is within the limits from the first of these days to the last.
+const FIRST_WITHIN: i64 = -100_000_001;
 
-// Past these no month's first day and no carry brings a day back into the balanced range.
-const FAR_BEFORE: i64 = -1_000_000_000_000_000_000;
+const LAST_WITHIN: i64 = 100_000_000;
 
-const FAR_AFTER: i64 = 1_000_000_000_000_000_000;
-
-// A day between them is a natural when this is added.
-const FAR_BIAS: u64 = 1_000_000_000_000_000_000;
-
-// More than any carry of a balanced time.
-const CARRY_BIAS: u64 = 4_503_599_627_370_496;
+// No month's first day (below 2^50 in size) and no carry (below 2^52) brings a day that is larger back into the balanced range, and
+// their sum with one that is not has room in 64 bits.
+const FAR: i64 = 1_000_000_000_000_000_000;
 
 // The lengths of the months of a common year.
 const MONTH_LENGTHS: [u8; 12] = [31, 28, 31, 30, 31, 30, 31, 31, 30, 31, 30, 31];
@@ -50,7 +44,8 @@ pub fn year_up(year: i32) -> u64
     whole::inner::raise32(year, YEAR_BIAS)
 }
 
-// The days before year u.
+// The days before year u: 365 for each year, and a day more for each leap year. Year 0 is one, so of the years before u the multiples
+// of d are as many as u / d, rounded up, which is (u + d - 1) / d: those of 4, less those of 100, and those of 400 again.
 pub fn year_start(u: u64) -> u64
     requires { ⌜ u < 2 ^ 40 ⌝ }
     ensures { λ r. ⌜ (r ≡ yearStart u) × (r < 2 ^ 49) ⌝ }
@@ -106,7 +101,9 @@ pub fn month_start(u: u64, i: u64) -> u64
     year_start(u) + days_before(leap, i)
 }
 
-// The year that holds day n. The mean of 146,097 days in 400 years is exact or one year late.
+// The year that holds day n, from the mean length of a year, 146,097 / 400 days. A year starts less than one day (396 / 400) before
+// its start by the mean, so that by day n + 1 its start by the mean is over too: the estimate is never early. It starts less than two
+// days (699 / 400) after that, so that the estimate is at most one year late.
 pub fn year_of(n: u64) -> u64
     requires { ⌜ (n < 2 ^ 48) × (146097 ≤ n) ⌝ }
     ensures { λ r. ⌜ YearHolds n r ⌝ }
@@ -210,21 +207,21 @@ pub fn clamp_to(high: u8, n: u8) -> u8
     n
 }
 
-// The day number of a date whose fields are valid, as a natural.
+// The day number of a date whose fields are valid, as a natural: `civil` leads back from it.
 pub fn day_up(date: IsoDate) -> u64
     requires { ⌜ isValidISODate date ≡ true ⌝ }
-    ensures { λ r. ⌜ (epochDays date ≡ r ⊖ (dayBias + 1)) × (r < 2 ^ 51) ⌝ }
+    ensures { λ r. ⌜ (epochDays date ≡ r ⊖ dayBias) × (r < 2 ^ 51) ⌝ }
 {
     let u = year_up(date.year);
-    month_start(u, date.month as u64 - 1) + date.day as u64
+    month_start(u, date.month as u64 - 1) + date.day as u64 - 1
 }
 
 // The day number of a date whose fields are valid.
 pub fn epoch_days(date: IsoDate) -> i64
     requires { ⌜ isValidISODate date ≡ true ⌝ }
-    ensures { λ r. ⌜ r ≡ epochDays date ⌝ }
+    ensures { λ r. ⌜ (r ≡ epochDays date) × (natAbs r < 2 ^ 51) ⌝ }
 {
-    whole::inner::lower(day_up(date), DAY_BIAS + 1)
+    whole::inner::lower(day_up(date), DAY_BIAS)
 }
 
 // Whether a date whose fields are valid lies within the date limits.
@@ -233,20 +230,30 @@ pub fn within_limits(date: IsoDate) -> bool
     ensures { λ r. ⌜ r ≡ isoDateWithinLimits date ⌝ }
 {
     let day = epoch_days(date);
-    if day < FIRST_BALANCED {
-        return false;
-    }
-    day <= 100_000_000
+    (FIRST_WITHIN <= day) & (day <= LAST_WITHIN)
 }
 
-// The number that a limit test refuses with, 0 where it does not.
-pub fn refused_by(limit: LimitResult) -> u8
-    ensures { λ r. ⌜ r ≡ numberOf (ofLimit limit) ⌝ }
+// Whether a day count is in the balanced range.
+pub fn is_balanced(day: i64) -> bool
+    ensures { λ r. ⌜ r ≡ balanced day ⌝ }
 {
-    match limit {
-        LimitResult::Within => 0,
-        LimitResult::Refused(n) => n,
-    }
+    (-MOST_BALANCED <= day) & (day <= MOST_BALANCED)
+}
+
+// A date moved by weeks and days; 4 past the balanced range.
+pub fn add_days(date: IsoDate, weeks: i64, days: i64) -> DateResult
+    requires { ⌜ (isValidISODate date ≡ true) × ((natAbs weeks < 2 ^ 32) × (natAbs days < 2 ^ 38)) ⌝ }
+    ensures { λ r. ⌜ ofDate r ≡ dayToDate (epochDays date +ℤ (days +ℤ pos 7 *ℤ weeks)) ⌝ }
+{
+    IsoDate::from_epoch_days(epoch_days(date) + (days + 7 * weeks))
+}
+
+// The day number of the first day of any month of any year.
+fn month_first(year: i32, month: i32) -> i64
+    ensures { λ r. ⌜ (r ≡ dayFromMonth (balancedYear year month) (fmod (month -ℤ pos 1) 12)) × (natAbs r < 2 ^ 50) ⌝ }
+{
+    let b = balance_up(year_up(year), month_up(month));
+    whole::inner::lower(month_start(b.year, b.index), DAY_BIAS)
 }
 
 // The date of any year, month and day with a carry of days, by the exact day count; 4 past the balanced range.
@@ -254,14 +261,9 @@ pub fn balance_sum(year: i32, month: i32, day: i64, carry: i64) -> DateResult
     requires { ⌜ natAbs carry < 2 ^ 52 ⌝ }
     ensures { λ r. ⌜ ofDate r ≡ balanceDate year month (day +ℤ carry) ⌝ }
 {
-    let b = balance_up(year_up(year), month_up(month));
-    let first = month_start(b.year, b.index);
-    if day < FAR_BEFORE {
+    let first = month_first(year, month);
+    if (day < -FAR) | (FAR < day) {
         return DateResult::Refused(refusal::DAY_COUNT);
     }
-    if day > FAR_AFTER {
-        return DateResult::Refused(refusal::DAY_COUNT);
-    }
-    let sum = first + (whole::inner::raise(day, FAR_BIAS) + whole::inner::raise(carry, CARRY_BIAS));
-    IsoDate::from_epoch_days(whole::inner::lower(sum, DAY_BIAS + (FAR_BIAS + CARRY_BIAS + 1)))
+    IsoDate::from_epoch_days(first + (day + carry - 1))
 }

@@ -19,7 +19,7 @@ pub struct YearMonth {
     pub month: u8,
 }
 
-pub enum MonthLength {
+pub enum MonthLengthResult {
     Days(u8),
     Refused(u8),
 }
@@ -40,16 +40,13 @@ pub enum LimitResult {
 }
 
 // How many days a month has; 1 where there is no such month.
-pub fn iso_days_in_month(year: i32, month: u8) -> MonthLength
+pub fn iso_days_in_month(year: i32, month: u8) -> MonthLengthResult
     ensures { λ r. ⌜ ofMonthLength r ≡ monthLength year month ⌝ }
 {
-    if month < 1 {
-        return MonthLength::Refused(refusal::FIELD);
+    if (month < 1) | (12 < month) {
+        return MonthLengthResult::Refused(refusal::FIELD);
     }
-    if month > 12 {
-        return MonthLength::Refused(refusal::FIELD);
-    }
-    MonthLength::Days(inner::days_in_month(year, month))
+    MonthLengthResult::Days(inner::days_in_month(year, month))
 }
 
 impl IsoDate {
@@ -58,14 +55,8 @@ impl IsoDate {
         ensures { λ r. ⌜ r ≡ isValidISODate self ⌝ }
     {
         let month = self.month;
-        if month < 1 {
-            return false;
-        }
-        if month > 12 {
-            return false;
-        }
         let day = self.day;
-        if day < 1 {
+        if (month < 1) | (12 < month) | (day < 1) {
             return false;
         }
         day <= inner::days_in_month(self.year, month)
@@ -79,10 +70,7 @@ impl IsoDate {
             return DayResult::Refused(refusal::FIELD);
         }
         let day = inner::epoch_days(self);
-        if day < inner::FIRST_BALANCED {
-            return DayResult::Refused(refusal::DAY_COUNT);
-        }
-        if day > inner::LAST_BALANCED {
+        if !inner::is_balanced(day) {
             return DayResult::Refused(refusal::DAY_COUNT);
         }
         DayResult::Day(day)
@@ -92,10 +80,7 @@ impl IsoDate {
     pub fn from_epoch_days(day: i64) -> DateResult
         ensures { λ r. ⌜ ofDate r ≡ dayToDate day ⌝ }
     {
-        if day < inner::FIRST_BALANCED {
-            return DateResult::Refused(refusal::DAY_COUNT);
-        }
-        if day > inner::LAST_BALANCED {
+        if !inner::is_balanced(day) {
             return DateResult::Refused(refusal::DAY_COUNT);
         }
         let n = whole::inner::raise(day, inner::DAY_BIAS);

@@ -1,4 +1,4 @@
--- The difference of two records by the turn of their days and times, and how its answers come out of the checks. Assumes nothing.
+-- The difference of two records, their days and times adjusted, and how its answers come out of the checks.
 use Prim.Native.Nat.{ℕ, _+_, _-_, _*_, _^_, _≤_, _<_, min, max}
 use native.Mathlib.Omega.{arith}
 use mathlib.Core.Path.{_≡_, sym, _∙_, ap, ap₂}
@@ -8,7 +8,7 @@ use lib.Dec.{leb}
 use lib.IntN.{ℤ, pos, negℤ, _+ℤ_, _-ℤ_, _*ℤ_}
 use lib.Signed.{_≤ℤ_}
 use Rattle.refusal.specs.Answer.{Answer, given, refused, numberOf}
-use Rattle.whole.specs.Whole.{_⊖_}
+use Rattle.whole.specs.Whole.{apart, _⊖_}
 use Rattle.whole.proofs.Laws.{ints, read-add, read-neg, read-diff}
 use Rattle.whole.proofs.Tests.{both}
 use Rattle.iso_date.specs.Proposal.{epochDays, epochDaysToISODate, isValidISODate}
@@ -24,15 +24,14 @@ use Rattle.date_duration.specs.declared.DateDuration.{DateDuration}
 use Rattle.options.specs.declared.Unit.{Unit as TemporalUnit}
 use Rattle.options.specs.Units.{unitRank, nsPerDay}
 use Rattle.date_math.specs.Proposal.{directed, calendarDateUntil}
-use Rattle.date_math.specs.Inner.{apart}
 use Rattle.date_math.proofs.Places.{directed-times, directed-add}
 use Rattle.iso_date_time.specs.Proposal.{movedDays, timeLeft, differenceISODateTime}
 use Rattle.iso_date_time.specs.Paper.{dateTimeLimits, dateTimeDifference}
-use Rattle.iso_date_time.specs.Inner.{Turns}
+use Rattle.iso_date_time.specs.Inner.{Adjusts}
 use Rattle.iso_date_time.specs.declared.IsoDateTime.{IsoDateTime}
 use Rattle.iso_date_time.specs.declared.InternalDurationRecord.{InternalDurationRecord}
 use Rattle.iso_date_time.proofs.Moments.{Fine}
-use Rattle.iso_date_time.proofs.Turns.{moved-days-is, day-difference}
+use Rattle.iso_date_time.proofs.Adjusted.{moved-days-is, day-difference}
 
 -- ---- the days of a record within the limits
 
@@ -40,19 +39,19 @@ pub fine-day : (r : IsoDateTime) → Fine r → (negℤ (pos 100000001) ≤ℤ e
 fine-day r f =
     limits-days (epochDays (r .date)) (nanoseconds (r .time)) (below-day (r .time) (read-valid (r .time) (f .time-valid))) (f .within)
 
--- ---- the turn between two records
+-- ---- the adjustment between two records
 
 -- where the second date is moved to, and the time that is then left
 pub record Placed (one two : IsoDateTime) (p day : ℕ) (forward : Bool) (ns : ℕ) : Type 0 where
-  pub day-low : dayBias - 100000000 ≤ day
-  pub day-high : day ≤ dayBias + 100000002
+  pub day-low : dayBias - 100000001 ≤ day
+  pub day-high : day ≤ dayBias + 100000001
   pub near : apart p day < 2 ^ 40
-  pub moved-is : epochDays (two .date) +ℤ movedDays one two ≡ day ⊖ (dayBias + 1)
-  pub days-are : (day ⊖ (dayBias + 1)) -ℤ epochDays (one .date) ≡ directed forward (apart p day)
+  pub moved-is : epochDays (two .date) +ℤ movedDays one two ≡ day ⊖ dayBias
+  pub days-are : (day ⊖ dayBias) -ℤ epochDays (one .date) ≡ directed forward (apart p day)
   pub left-are : timeLeft one two ≡ directed forward ns
 
-raised : (z : ℤ) (r K : ℕ) → z ≡ r ⊖ (K + 1) → negℤ (pos 100000001) ≤ℤ z → z ≤ℤ pos 100000000 → (K ≤ r + 100000000) × (r ≤ K + 100000001)
-raised z r K e h k = let d = read-diff r (K + 1) in (omega (arith, ints), omega (arith, ints))
+raised : (z : ℤ) (r K : ℕ) → z ≡ r ⊖ K → negℤ (pos 100000001) ≤ℤ z → z ≤ℤ pos 100000000 → (K ≤ r + 100000001) × (r ≤ K + 100000000)
+raised z r K e h k = let d = read-diff r K in (omega (arith, ints), omega (arith, ints))
 
 on-the-way : (p q day : ℕ) (forward : Bool) → cond forward (leb p day && leb day q) (leb q day && leb day p) ≡ true →
     (min p q ≤ day) × (day ≤ max p q)
@@ -80,12 +79,12 @@ days-ahead x p q day K false e f =
     omega (arith, ints, read-diff p K, read-diff day K, read-neg x, read-add (day ⊖ K) (negℤ x), read-neg (pos (apart p day)))
 
 module _ (one two : IsoDateTime) (one-fine : Fine one) (two-fine : Fine two) (p a q b day : ℕ) (forward : Bool) (ns : ℕ)
-    (from : epochDays (one .date) ≡ p ⊖ (dayBias + 1)) (to : epochDays (two .date) ≡ q ⊖ (dayBias + 1))
+    (from : epochDays (one .date) ≡ p ⊖ dayBias) (to : epochDays (two .date) ≡ q ⊖ dayBias)
     (start : a ≡ nanoseconds (one .time)) (end : b ≡ nanoseconds (two .time)) where
-  pub placed : Turns p a q b day forward ns → Placed one two p day forward ns
+  pub placed : Adjusts p a q b day forward ns → Placed one two p day forward ns
   placed t =
-      let u : Turns p (nanoseconds (one .time)) q (nanoseconds (two .time)) day forward ns = rw (start, end) at t in
-      let m = moved-days-is one two p q (dayBias + 1) (one-fine .date-valid) (two-fine .date-valid) from to in
+      let u : Adjusts p (nanoseconds (one .time)) q (nanoseconds (two .time)) day forward ns = rw (start, end) at t in
+      let m = moved-days-is one two p q dayBias (one-fine .date-valid) (two-fine .date-valid) from to in
       let x = fine-day one one-fine in
       let y = fine-day two two-fine in
       let r = raised (epochDays (one .date)) p dayBias from (x .0) (x .1) in
@@ -95,8 +94,8 @@ module _ (one two : IsoDateTime) (one-fine : Fine one) (two-fine : Fine two) (p 
         day-low = omega arith;
         day-high = omega arith;
         near = omega arith;
-        moved-is = rw m (day-moved (epochDays (two .date)) _ q day (dayBias + 1) to (u .day-is));
-        days-are = days-ahead (epochDays (one .date)) p q day (dayBias + 1) forward (u .between) from;
+        moved-is = rw m (day-moved (epochDays (two .date)) _ q day dayBias to (u .day-is));
+        days-are = days-ahead (epochDays (one .date)) p q day dayBias forward (u .between) from;
         left-are = rw m (sym (u .left-is));
       }
 
@@ -115,7 +114,7 @@ module _ (one two : IsoDateTime) (unit : TemporalUnit) (p day : ℕ) (forward : 
     (is : rank ≡ unitRank unit) where
   -- down to the day the dates are counted under the unit, and the time that is left stands beside them
   pub dates-and-time : (d : DateDuration) (s : TimeDuration) → rank ≤ 3 →
-      d ≡ calendarDateUntil (one .date) (epochDaysToISODate (day ⊖ (dayBias + 1))) unit → s ≡ inSeconds (directed forward (nsPerDay * 0 + ns)) →
+      d ≡ calendarDateUntil (one .date) (epochDaysToISODate (day ⊖ dayBias)) unit → s ≡ inSeconds (directed forward (nsPerDay * 0 + ns)) →
       both-parts d s ≡ differenceISODateTime one two unit
   unfolding differenceISODateTime
   dates-and-time d s h e f =
@@ -129,25 +128,23 @@ module _ (one two : IsoDateTime) (unit : TemporalUnit) (p day : ℕ) (forward : 
       both-parts (duration (pos 0) (pos 0) (pos 0) (pos 0)) s ≡ differenceISODateTime one two unit
   unfolding differenceISODateTime
   time-alone v n s h g e =
-      let to : IsoDate = epochDaysToISODate (day ⊖ (dayBias + 1)) in
+      let to : IsoDate = epochDaysToISODate (day ⊖ dayBias) in
       let days : epochDays to -ℤ epochDays (one .date) ≡ directed forward n =
-      rw (back-and-there (day ⊖ (dayBias + 1)), g) (t .days-are) in
-      let dates = day-difference (one .date) to v (back-valid (day ⊖ (dayBias + 1))) in
+      rw (back-and-there (day ⊖ dayBias), g) (t .days-are) in
+      let dates = day-difference (one .date) to v (back-valid (day ⊖ dayBias)) in
       rw (lt-leb (unitRank unit) 3 (omega arith), le-leb 4 (unitRank unit) (omega arith), t .moved-is, t .left-are, dates, days, together forward n ns)
       (ap (both-parts (duration (pos 0) (pos 0) (pos 0) (pos 0))) e)
 
 -- ---- one law for each way through the checks
 
 module _ (one two : IsoDateTime) (unit : TemporalUnit) where
-  pub first-refused : (checked : Answer (Unit {0})) (n r : ℕ) → checked ≡ refused n → r ≡ numberOf checked → checked ≡ dateTimeLimits one →
-      refused r ≡ dateTimeDifference one two unit
+  pub first-refused : (n : ℕ) → refused n ≡ dateTimeLimits one → refused n ≡ dateTimeDifference one two unit
   unfolding dateTimeDifference
-  first-refused checked n r e f g = rw (f, ← g, e)
+  first-refused n e = rw (← e)
 
-  pub second-refused : (checked : Answer (Unit {0})) (n r : ℕ) → given tt ≡ dateTimeLimits one → checked ≡ refused n → r ≡ numberOf checked →
-      checked ≡ dateTimeLimits two → refused r ≡ dateTimeDifference one two unit
+  pub second-refused : (n : ℕ) → given tt ≡ dateTimeLimits one → refused n ≡ dateTimeLimits two → refused n ≡ dateTimeDifference one two unit
   unfolding dateTimeDifference
-  second-refused checked n r h e f g = rw (f, ← h, ← g, e)
+  second-refused n e f = rw (← e, ← f)
 
   pub both-given : (r : InternalDurationRecord) → given tt ≡ dateTimeLimits one → given tt ≡ dateTimeLimits two → r ≡ differenceISODateTime one two unit →
       given r ≡ dateTimeDifference one two unit

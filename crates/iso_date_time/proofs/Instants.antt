@@ -1,17 +1,17 @@
 -- Instants and offsets: what their tests say, the record of an instant at an offset, and that it always lies within the limits.
--- Assumes nothing.
 use Prim.Native.Nat.{ℕ, _+_, _-_, _/_, _%_, _^_, _≤_, _<_}
 use native.Mathlib.Omega.{arith}
 use mathlib.Core.Path.{_≡_, refl, sym, _∙_, ap}
-use mathlib.Core.Bool.{true, false}
-use borrow.Author.Tests.{ltb-true, lt-ltb, le-ltb}
+use mathlib.Core.Bool.{Bool, true, false, _&&_, _||_}
+use borrow.Author.Tests.{ltb-true, lt-ltb}
+use lib.Dec.{ltb}
 use lib.IntN.{ℤ, pos, negsuc, negℤ, natAbs, _+ℤ_, _-ℤ_, _*ℤ_}
 use lib.Signed.{ltZ, leZ, _≤ℤ_, _<ℤ_}
 use Rattle.options.specs.Units.{nsPerDay}
 use Rattle.whole.specs.Whole.{_⊖_}
 use Rattle.whole.proofs.Laws.{parts, whole, ints, size-of, range-of, read-add, read-diff, read-times}
 use Rattle.whole.proofs.Edges.{nat-of, raise-room}
-use Rattle.whole.proofs.Tests.{alike, both}
+use Rattle.whole.proofs.Tests.{both, one-of, together}
 use Rattle.refusal.specs.Answer.{given, refused}
 use Rattle.iso_date.specs.Proposal.{epochDays, epochDaysToISODate, isoDateToEpochDays, dayFromMonth, isValidISODate, nsLimit}
 use Rattle.iso_date.specs.Inner.{dayBias}
@@ -30,14 +30,17 @@ use Rattle.iso_date_time.specs.declared.IsoDateTime.{IsoDateTime}
 
 -- ---- an offset
 
-pub offset-low : (z : ℤ) → z ≤ℤ negℤ (pos nsPerDay) → false ≡ isOffset z
+pub offset-decides : (z : ℤ) → (ltZ (negℤ (pos nsPerDay)) z && ltZ z (pos nsPerDay)) ≡ isOffset z
 unfolding isOffset
-offset-low z h = sym (le-ltb (natAbs z) nsPerDay (omega (arith, ints, size-of z, range-of z)))
-
-pub offset-decides : (z : ℤ) → negℤ (pos nsPerDay) <ℤ z → ltZ z (pos nsPerDay) ≡ isOffset z
-unfolding isOffset
-offset-decides (pos n) h = refl
-offset-decides (negsuc n) h = sym (lt-ltb (natAbs (negsuc n)) nsPerDay (omega (arith, ints)))
+offset-decides z =
+    together _ (ltb (natAbs z) nsPerDay)
+    (λ e. let b = both (ltZ (negℤ (pos nsPerDay)) z) (ltZ z (pos nsPerDay)) e in
+    lt-ltb (natAbs z) nsPerDay (omega (arith, ints, b .0, b .1, size-of z, range-of z)))
+    (λ e.
+    let h = ltb-true (natAbs z) nsPerDay e in
+    let low : ltZ (negℤ (pos nsPerDay)) z ≡ true = omega (arith, ints, size-of z, range-of z) in
+    let high : ltZ z (pos nsPerDay) ≡ true = omega (arith, ints, size-of z, range-of z) in
+    rw (low, high))
 
 offset-small : (z : ℤ) → isOffset z ≡ true → natAbs z < nsPerDay
 unfolding isOffset
@@ -46,56 +49,7 @@ offset-small z e = ltb-true (natAbs z) nsPerDay e
 pub offset-room : (z : ℤ) → isOffset z ≡ true → (nsPerDay < 2 ^ 63) × (((0 ⊖ nsPerDay) ≤ℤ z) × (z <ℤ ((2 ^ 63) ⊖ nsPerDay)))
 offset-room z e = raise-room z nsPerDay (offset-small z e) (omega arith)
 
--- ---- an instant, test by test
-
-module _ (day ns : ℤ) where
-  abbrev moment : ℤ
-  moment = pos nsPerDay *ℤ day +ℤ ns
-
-  pub before-midnight : ns <ℤ pos 0 → false ≡ isInstant day ns
-  unfolding isInstant
-  before-midnight h = let t : leZ (pos 0) ns ≡ false = omega (arith, ints) in rw t
-
-  module _ (low : pos 0 ≤ℤ ns) where
-    pub past-the-day : pos nsPerDay ≤ℤ ns → false ≡ isInstant day ns
-    unfolding isInstant
-    past-the-day h =
-        let a : leZ (pos 0) ns ≡ true = omega (arith, ints) in let b : ltZ ns (pos nsPerDay) ≡ false = omega (arith, ints) in rw (a, b)
-
-    module _ (high : ns <ℤ pos nsPerDay) where
-      pub too-early : day <ℤ negℤ (pos 100000000) → false ≡ isInstant day ns
-      unfolding isInstant
-      too-early h =
-          let a : leZ (pos 0) ns ≡ true = omega (arith, ints) in
-          let b : ltZ ns (pos nsPerDay) ≡ true = omega (arith, ints) in
-          let c : leZ (negℤ (pos 100000000)) day ≡ false = omega (arith, ints) in
-          rw (a, b, c)
-
-      -- the last of the tests decides
-      pub moment-decides : negℤ (pos 100000000) ≤ℤ day → leZ moment (pos nsPerDay *ℤ pos 100000000) ≡ isInstant day ns
-      unfolding isInstant
-      moment-decides h =
-          let a : leZ (pos 0) ns ≡ true = omega (arith, ints) in
-          let b : ltZ ns (pos nsPerDay) ≡ true = omega (arith, ints) in
-          let c : leZ (negℤ (pos 100000000)) day ≡ true = omega (arith, ints) in
-          rw (a, b, c)
-
-      pub early-enough : negℤ (pos 100000000) ≤ℤ day → day <ℤ pos 100000000 → true ≡ isInstant day ns
-      early-enough h l =
-          let t : leZ moment (pos nsPerDay *ℤ pos 100000000) ≡ true = omega (arith, ints, read-times nsPerDay day, read-add (pos nsPerDay *ℤ day) ns) in
-          sym t ∙ moment-decides h
-
-      pub too-late : pos 100000000 <ℤ day → false ≡ isInstant day ns
-      too-late h =
-          let t : leZ moment (pos nsPerDay *ℤ pos 100000000) ≡ false = omega (arith, ints, read-times nsPerDay day, read-add (pos nsPerDay *ℤ day) ns) in
-          sym t ∙ moment-decides (omega (arith, ints))
-
-      pub on-the-last-day : pos 100000000 ≤ℤ day → day ≤ℤ pos 100000000 → leZ ns (pos 0) ≡ isInstant day ns
-      on-the-last-day h l =
-          let t = read-times nsPerDay day in
-          let s = read-add (pos nsPerDay *ℤ day) ns in
-          alike (leZ ns (pos 0)) (leZ moment (pos nsPerDay *ℤ pos 100000000)) (λ e. omega (arith, ints)) (λ e. omega (arith, ints)) ∙
-          moment-decides (omega (arith, ints))
+-- ---- an instant
 
 pub record Instant (day ns : ℤ) : Type 0 where
   pub ns-low : pos 0 ≤ℤ ns
@@ -113,7 +67,7 @@ read-instant day ns e =
     let low : leZ (pos 0) ns ≡ true = a .0 in
     let high : ltZ ns (pos nsPerDay) ≡ true = a .1 in
     let early : leZ (negℤ (pos 100000000)) day ≡ true = b .0 in
-    let late : leZ (moment day ns) (pos nsPerDay *ℤ pos 100000000) ≡ true = b .1 in
+    let late : leZ (pos nsPerDay *ℤ day +ℤ ns) (pos nsPerDay *ℤ pos 100000000) ≡ true = b .1 in
     record {
       ns-low = omega (arith, ints);
       ns-high = omega (arith, ints);
@@ -121,6 +75,45 @@ read-instant day ns e =
       day-high = omega (arith, ints, read-times nsPerDay day, read-add (pos nsPerDay *ℤ day) ns);
       not-past = omega (arith, ints);
     }
+
+-- before day 10^8 every nanosecond is an instant, on it midnight alone, after it none
+pub instant-decides : (day ns : ℤ) →
+    (((leZ (pos 0) ns && ltZ ns (pos nsPerDay)) && leZ (negℤ (pos 100000000)) day) &&
+    (ltZ day (pos 100000000) || (leZ day (pos 100000000) && leZ ns (pos 0)))) ≡ isInstant day ns
+unfolding isInstant
+instant-decides day ns = together _ (isInstant day ns) there back
+  where
+    not-late : Bool
+    not-late = ltZ day (pos 100000000) || (leZ day (pos 100000000) && leZ ns (pos 0))
+
+    there : (((leZ (pos 0) ns && ltZ ns (pos nsPerDay)) && leZ (negℤ (pos 100000000)) day) && not-late) ≡ true → isInstant day ns ≡ true
+    there e =
+        let f = both ((leZ (pos 0) ns && ltZ ns (pos nsPerDay)) && leZ (negℤ (pos 100000000)) day) not-late e in
+        let g = both (leZ (pos 0) ns && ltZ ns (pos nsPerDay)) (leZ (negℤ (pos 100000000)) day) (f .0) in
+        let h = both (leZ (pos 0) ns) (ltZ ns (pos nsPerDay)) (g .0) in
+        let t = read-times nsPerDay day in
+        let s = read-add (pos nsPerDay *ℤ day) ns in
+        let last : leZ (pos nsPerDay *ℤ day +ℤ ns) (pos nsPerDay *ℤ pos 100000000) ≡ true =
+        one-of (ltZ day (pos 100000000)) (leZ day (pos 100000000) && leZ ns (pos 0)) (f .1) (λ l. omega (arith, ints, h .1))
+        (λ l. let m = both (leZ day (pos 100000000)) (leZ ns (pos 0)) l in omega (arith, ints, m .0, m .1)) in
+        rw (h .0, h .1, g .1, last)
+
+    back : isInstant day ns ≡ true → (((leZ (pos 0) ns && ltZ ns (pos nsPerDay)) && leZ (negℤ (pos 100000000)) day) && not-late) ≡ true
+    back e =
+        let i = read-instant day ns e in
+        let a : leZ (pos 0) ns ≡ true = omega (arith, ints, i .ns-low) in
+        let b : ltZ ns (pos nsPerDay) ≡ true = omega (arith, ints, i .ns-high) in
+        let c : leZ (negℤ (pos 100000000)) day ≡ true = omega (arith, ints, i .day-low) in
+        rw (a, b, c) (go i (ltZ day (pos 100000000)) refl)
+      where
+        go : Instant day ns → (t : Bool) → ltZ day (pos 100000000) ≡ t → not-late ≡ true
+        go i true e = rw e
+        go i false e =
+            let t = read-times nsPerDay day in
+            let s = read-add (pos nsPerDay *ℤ day) ns in
+            let a : leZ day (pos 100000000) ≡ true = omega (arith, ints, i .day-high) in
+            let b : leZ ns (pos 0) ≡ true = omega (arith, ints, i .not-past) in
+            rw (e, a, b)
 
 pub day-room : (day ns : ℤ) → Instant day ns → (dayBias < 2 ^ 63) × (((0 ⊖ dayBias) ≤ℤ day) × (day <ℤ ((2 ^ 63) ⊖ dayBias)))
 day-room day ns i = omega (arith, ints, i .day-low, i .day-high, read-diff 0 dayBias, read-diff (2 ^ 63) dayBias)

@@ -4,4 +4,4 @@ pub mod Moments
 pub mod Pinned
 pub mod Roundings
 pub mod Theorems
-pub mod Turns
+pub mod Adjusted

@@ -1,22 +1,22 @@
 -- The limits of a moment by its day and its nanosecond of the day, and how the answers of balancing and rounding come out of their
--- steps, one law for each way through the code. Assumes nothing.
+-- steps, one law for each way through the code.
 use Prim.Native.Nat.{ℕ, _^_, _≤_, _<_}
 use native.Mathlib.Omega.{arith}
 use mathlib.Core.Path.{_≡_, refl, sym, _∙_}
-use mathlib.Core.Bool.{Bool, true, false}
-use borrow.Author.Tests.{ltb-true, ltb-false}
+use mathlib.Core.Bool.{Bool, true, false, _&&_, _||_}
+use borrow.Author.Tests.{ltb-true, lt-ltb}
 use lib.Dec.{ltb}
 use lib.IntN.{ℤ, pos, negℤ, natAbs, _+ℤ_, _-ℤ_, _*ℤ_}
-use lib.Signed.{ltZ, _≤ℤ_, _<ℤ_}
+use lib.Signed.{ltZ, leZ}
 use Rattle.options.specs.Units.{nsPerDay}
 use Rattle.refusal.specs.Answer.{Answer, given, refused, check}
 use Rattle.refusal.proofs.Answers.{given-inj, never}
-use Rattle.whole.proofs.Tests.{alike}
+use Rattle.whole.proofs.Tests.{both, one-of, together}
 use Rattle.whole.proofs.Laws.{ints, size-of, range-of, read-add, read-times}
 use Rattle.iso_date.specs.Proposal.{epochDaysToISODate, isoDateToEpochDays, isValidISODate, nsWithinLimits, momentWithinLimits, nsLimit}
 use Rattle.iso_date.specs.Paper.{balanced, balanceDate, dayToDate}
 use Rattle.iso_date.specs.declared.IsoDate.{IsoDate}
-use Rattle.iso_date.proofs.Answers.{limits-in}
+use Rattle.iso_date.proofs.Answers.{limits-in, limits-days}
 use Rattle.iso_date.proofs.Dates.{back-valid}
 use Rattle.iso_time.specs.Proposal.{isValidTime, balanceTime, nanoseconds}
 use Rattle.iso_time.specs.Paper.{allBounded, balanceTimeFields}
@@ -31,25 +31,33 @@ use Rattle.iso_date_time.specs.declared.IsoDateTime.{IsoDateTime}
 
 -- ---- the limits
 
-module _ (n : ℤ) (ns : ℕ) (small : ns < nsPerDay) where
-  pub between : negℤ (pos 100000000) ≤ℤ n → n ≤ℤ pos 100000000 → true ≡ momentWithinLimits n ns
-  between a b =
-      let t = read-times nsPerDay n in
-      let s = read-add (pos nsPerDay *ℤ n) (pos ns) in
-      sym (limits-in n ns (omega (arith, ints)) (omega (arith, ints)))
+-- within the first and the last day every moment lies within, and on the day before the first every one but midnight
+pub moment-decides : (n : ℤ) (ns : ℕ) → ns < nsPerDay →
+    ((leZ (negℤ (pos 100000001)) n && leZ n (pos 100000000)) && (leZ (negℤ (pos 100000000)) n || ltb 0 ns)) ≡ momentWithinLimits n ns
+unfolding nsWithinLimits
+moment-decides n ns small = together _ (momentWithinLimits n ns) there back
+  where
+    there : ((leZ (negℤ (pos 100000001)) n && leZ n (pos 100000000)) && (leZ (negℤ (pos 100000000)) n || ltb 0 ns)) ≡ true → momentWithinLimits n ns ≡ true
+    there e =
+        let f = both (leZ (negℤ (pos 100000001)) n && leZ n (pos 100000000)) (leZ (negℤ (pos 100000000)) n || ltb 0 ns) e in
+        let g = both (leZ (negℤ (pos 100000001)) n) (leZ n (pos 100000000)) (f .0) in
+        let t = read-times nsPerDay n in
+        let s = read-add (pos nsPerDay *ℤ n) (pos ns) in
+        one-of (leZ (negℤ (pos 100000000)) n) (ltb 0 ns) (f .1)
+        (λ h. limits-in n ns (omega (arith, ints)) (omega (arith, ints, g .1)))
+        (λ h. let k = ltb-true 0 ns h in limits-in n ns (omega (arith, ints, g .0)) (omega (arith, ints, g .1)))
 
-  -- on the first day of all, midnight lies outside
-  pub first-day : negℤ (pos 100000001) ≤ℤ n → n <ℤ negℤ (pos 100000000) → ltb 0 ns ≡ momentWithinLimits n ns
-  unfolding nsWithinLimits
-  first-day a b =
-      let t = read-times nsPerDay n in
-      let s = read-add (pos nsPerDay *ℤ n) (pos ns) in
-      alike (ltb 0 ns) (momentWithinLimits n ns)
-      (λ e. let h = ltb-true 0 ns e in limits-in n ns (omega (arith, ints)) (omega (arith, ints)))
-      (λ e.
-      let h = ltb-false 0 ns e in
-      let u : ltZ (negℤ (pos nsLimit)) (pos nsPerDay *ℤ n +ℤ pos ns) ≡ false = omega (arith, ints) in
-      rw u)
+    back : momentWithinLimits n ns ≡ true → ((leZ (negℤ (pos 100000001)) n && leZ n (pos 100000000)) && (leZ (negℤ (pos 100000000)) n || ltb 0 ns)) ≡ true
+    back e =
+        let d = limits-days n ns small e in
+        let f = both (ltZ (negℤ (pos nsLimit)) (pos nsPerDay *ℤ n +ℤ pos ns)) (ltZ (pos nsPerDay *ℤ n +ℤ pos ns) (pos nsLimit)) e in
+        let a : leZ (negℤ (pos 100000001)) n ≡ true = omega (arith, ints, d .0) in
+        let b : leZ n (pos 100000000) ≡ true = omega (arith, ints, d .1) in
+        rw (a, b) (go (f .0) (leZ (negℤ (pos 100000000)) n) refl)
+      where
+        go : ltZ (negℤ (pos nsLimit)) (pos nsPerDay *ℤ n +ℤ pos ns) ≡ true → (t : Bool) → leZ (negℤ (pos 100000000)) n ≡ t → (leZ (negℤ (pos 100000000)) n || ltb 0 ns) ≡ true
+        go f true e = rw e
+        go f false e = rw (e, lt-ltb 0 ns (omega (arith, ints, read-times nsPerDay n, read-add (pos nsPerDay *ℤ n) (pos ns))))
 
 -- ---- a record's checks
 

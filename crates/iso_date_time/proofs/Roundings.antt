@@ -65,26 +65,21 @@ days-alone a d = ap (λ (z : ℤ). a +ℤ z) (+ℤ-idr d)
 -- ---- the ways
 
 module _ (r : IsoDateTime) (unit : TemporalUnit) (inc : ℕ) (mode : RoundingMode) where
-  pub round-record : (checked : Answer (Unit {0})) (n k : ℕ) → checked ≡ refused n → k ≡ numberOf checked → checked ≡ dateTimeLimits r →
-      refused k ≡ roundDateTime r unit inc mode
+  pub round-record : (n : ℕ) → refused n ≡ dateTimeLimits r → refused n ≡ roundDateTime r unit inc mode
   unfolding roundDateTime
-  round-record checked n k e f g = rw (f, ← g, e)
+  round-record n e = rw (← e)
 
-  pub round-time : (a : Answer BalancedTime) (n k : ℕ) → given tt ≡ dateTimeLimits r → a ≡ refused n → k ≡ numberOf a → a ≡ roundedTime (r .time) unit inc mode →
-      refused k ≡ roundDateTime r unit inc mode
+  pub round-time : (n : ℕ) → given tt ≡ dateTimeLimits r → refused n ≡ roundedTime (r .time) unit inc mode → refused n ≡ roundDateTime r unit inc mode
   unfolding roundDateTime roundedTime
-  round-time a n k h e f g = go (isRoundingUnit unit) refl (validIncrement unit inc) refl
+  round-time n h e = go (isRoundingUnit unit) refl (validIncrement unit inc) refl
     where
       valid : isValidTime (r .time) ≡ true
       valid = limits-fine r h .time-valid
 
-      same : refused k ≡ roundedTime (r .time) unit inc mode
-      same = ap refused (f ∙ ap numberOf e) ∙ sym e ∙ g
-
-      go : (u : Bool) → isRoundingUnit unit ≡ u → (i : Bool) → validIncrement unit inc ≡ i → refused k ≡ roundDateTime r unit inc mode
-      go true u true i = never (roundTime (r .time) inc unit mode) k (rw (valid, u, i) at same)
-      go true u false i = let x : k ≡ 6 = ap numberOf (rw (valid, u, i) at same) in rw (← h, u, i, x)
-      go false u _ i = let x : k ≡ 5 = ap numberOf (rw (valid, u) at same) in rw (← h, u, x)
+      go : (u : Bool) → isRoundingUnit unit ≡ u → (i : Bool) → validIncrement unit inc ≡ i → refused n ≡ roundDateTime r unit inc mode
+      go true u true i = never (roundTime (r .time) inc unit mode) n (rw (valid, u, i) at e)
+      go true u false i = let x : n ≡ 6 = ap numberOf (rw (valid, u, i) at e) in rw (← h, u, i, x)
+      go false u _ i = let x : n ≡ 5 = ap numberOf (rw (valid, u) at e) in rw (← h, u, x)
 
   module _ (b : BalancedTime) (h : given tt ≡ dateTimeLimits r) (e : given b ≡ roundedTime (r .time) unit inc mode) where
     -- the rounded time has no day or one, and the record's day is at most 100,000,000: the count is always that of a date

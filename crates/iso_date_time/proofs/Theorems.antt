@@ -10,7 +10,7 @@ use borrow.Author.Tests.{le-leb}
 use lib.IntN.{ℤ, pos, negℤ, _+ℤ_, _-ℤ_, _*ℤ_, +ℤ-idl, +ℤ-comm}
 use Rattle.refusal.specs.Answer.{Answer, given, refused, check, andThen, numberOf}
 use Rattle.refusal.proofs.Answers.{given-inj, never}
-use Rattle.whole.specs.Whole.{_⊖_}
+use Rattle.whole.specs.Whole.{apart, _⊖_}
 use Rattle.whole.proofs.Laws.{whole, ints, parts, split, read-add, read-neg, read-diff}
 use Rattle.whole.proofs.Edges.{raised-is}
 use Rattle.iso_date.specs.Proposal.{epochDays, epochDaysToISODate, isValidISODate}
@@ -29,15 +29,14 @@ use Rattle.options.specs.declared.Unit.the-variants as U
 use Rattle.options.specs.Units.{unitRank, nsPerDay}
 use Rattle.date_math.specs.Proposal.{directed}
 use Rattle.date_math.specs.Claims.{Ahead}
-use Rattle.date_math.specs.Inner.{apart}
 use Rattle.date_math.proofs.Theorems.{parts-ahead}
 use Rattle.iso_date_time.specs.Proposal.{epochNanoseconds, isoDateTimeWithinLimits, roundISODateTime, movedDays, timeLeft, atLeastDay, belowDay, joined, differenceISODateTime}
 use Rattle.iso_date_time.specs.Paper.{dateTimeLimits, roundDateTime, dateTimeDifference}
-use Rattle.iso_date_time.specs.Inner.{Turns}
+use Rattle.iso_date_time.specs.Inner.{Adjusts}
 use Rattle.iso_date_time.specs.Claims.{exactly, OneWay}
 use Rattle.iso_date_time.specs.declared.IsoDateTime.{IsoDateTime}
 use Rattle.iso_date_time.proofs.Moments.{Fine, limits-fine, check-passed}
-use Rattle.iso_date_time.proofs.Turns.{in-seconds-is, turned-down, turned-ahead, turned-up, turned-behind, turned-here, day-difference}
+use Rattle.iso_date_time.proofs.Adjusted.{in-seconds-is, adjusted-down, adjusted-ahead, adjusted-up, adjusted-behind, adjusted-here, day-difference}
 use Rattle.iso_date_time.proofs.Differences.{Placed, fine-day, placed, dates-and-time, time-alone}
 
 -- ---- the exact nanoseconds of an answer's days and time
@@ -88,17 +87,17 @@ ahead-by : (forward : Bool) (x y : ℤ) (n : ℕ) → y -ℤ x ≡ directed forw
 ahead-by true x y n e = omega (arith, ints, read-neg x, read-add y (negℤ x))
 ahead-by false x y n e = omega (arith, ints, read-neg x, read-add y (negℤ x), read-neg (pos n))
 
--- there is a turn between any two moments
+-- any two moments can be adjusted
 module _ {A : Type 0} (p a q b : ℕ) (k : a < nsPerDay) (l : b < nsPerDay)
-    (go-on : (day : ℕ) (forward : Bool) (ns : ℕ) → Turns p a q b day forward ns → A) where
-  some-turn : A
-  some-turn =
+    (go-on : (day : ℕ) (forward : Bool) (ns : ℕ) → Adjusts p a q b day forward ns → A) where
+  some-adjustment : A
+  some-adjustment =
       ⊎-elim
-      (λ h. ⊎-elim (λ i. go-on _ _ _ (turned-down p a q b h i k)) (λ i. go-on _ _ _ (turned-ahead p a q b h i l)) (split b a))
+      (λ h. ⊎-elim (λ i. go-on _ _ _ (adjusted-down p a q b h i k)) (λ i. go-on _ _ _ (adjusted-ahead p a q b h i l)) (split b a))
       (λ h.
       ⊎-elim
-      (λ j. ⊎-elim (λ i. go-on _ _ _ (turned-up p a q b j i l)) (λ i. go-on _ _ _ (turned-behind p a q b j i k)) (split a b))
-      (λ j. go-on _ _ _ (turned-here p a q b (apart a b) h j k l refl))
+      (λ j. ⊎-elim (λ i. go-on _ _ _ (adjusted-up p a q b j i l)) (λ i. go-on _ _ _ (adjusted-behind p a q b j i k)) (split a b))
+      (λ j. go-on _ _ _ (adjusted-here p a q b (apart a b) h j k l refl))
       (split q p))
       (split p q)
 
@@ -165,7 +164,7 @@ module _ (one two : IsoDateTime) (one-stands : dateTimeLimits one ≡ given tt) 
         nanoseconds-along = counted forward (ns % 1000000000);
       }))
       (λ h.
-      let to : ℤ = day ⊖ (dayBias + 1) in
+      let to : ℤ = day ⊖ dayBias in
       let ahead = ahead-by forward (epochDays (one .date)) (epochDays (epochDaysToISODate to)) (apart p day) (rw (back-and-there to) (t .days-are)) in
       let d = parts-ahead forward (one .date) (epochDaysToISODate to) unit (one-fine .date-valid) (back-valid to) ahead in
       rw (← dates-and-time one two unit p day forward ns (unitRank unit) t refl _ _ h (sym (d .are)) (in-seconds-is forward 0 ns _ _ refl refl))
@@ -185,9 +184,9 @@ module _ (one two : IsoDateTime) (one-stands : dateTimeLimits one ≡ given tt) 
   no-part-opposed unit =
       let a : ℕ = nanoseconds (one .time) in
       let b : ℕ = nanoseconds (two .time) in
-      let from = raised-is (epochDays (one .date)) (dayBias + 1) (omega (arith, ints, fine-day one one-fine, read-diff 0 (dayBias + 1))) in
-      let to = raised-is (epochDays (two .date)) (dayBias + 1) (omega (arith, ints, fine-day two two-fine, read-diff 0 (dayBias + 1))) in
-      some-turn _ a _ b (below-day (one .time) (read-valid (one .time) (one-fine .time-valid))) (below-day (two .time) (read-valid (two .time) (two-fine .time-valid)))
+      let from = raised-is (epochDays (one .date)) dayBias (omega (arith, ints, fine-day one one-fine, read-diff 0 dayBias)) in
+      let to = raised-is (epochDays (two .date)) dayBias (omega (arith, ints, fine-day two two-fine, read-diff 0 dayBias)) in
+      some-adjustment _ a _ b (below-day (one .time) (read-valid (one .time) (one-fine .time-valid))) (below-day (two .time) (read-valid (two .time) (two-fine .time-valid)))
       (λ day forward ns t. one-way unit _ day forward ns (placed one two one-fine two-fine _ a _ b day forward ns from to refl refl t))
 
 -- ---- rounding never refuses with 4, and what it gives may stand

@@ -3,38 +3,40 @@ use crate::DateTimeResult;
 use crate::InternalDurationRecord;
 use crate::IsoDateTime;
 use date_duration::DateDuration;
-use date_math::inner::distance;
-use date_math::inner::signed;
 use iso_date::IsoDate;
 use iso_date::inner::DAY_BIAS;
 use iso_date::inner::day_up;
-use iso_time::BalanceResult;
 use iso_time::IsoTime;
 use iso_time::TimeDuration;
 use iso_time::inner::nanoseconds_of;
+use options::DAY_RANK;
 use options::Unit;
+use whole::inner::abs_diff;
+use whole::inner::directed;
+use whole::inner::raise;
+use whole::inner::to_natural;
 ghost use mathlib.Core.Path.{_≡_};
 ghost use mathlib.Core.Bool.{true};
 ghost use Prim.Native.Nat.{_+_, _-_, _*_, _/_, _%_, _^_, _<_, _≤_};
 ghost use lib.IntN.{natAbs};
 ghost use Rattle.options.specs.Units.{nsPerDay};
-ghost use Rattle.refusal.specs.Answer.{numberOf, check, given};
+ghost use Rattle.refusal.specs.Answer.{check, given};
 ghost use Rattle.whole.specs.Whole.{_⊖_};
 ghost use Rattle.iso_date.specs.Proposal.{isValidISODate, epochDaysToISODate};
 ghost use Rattle.iso_date.specs.Inner.{dayBias};
 ghost use Rattle.iso_time.specs.Proposal.{isValidTime, nanoseconds, inSeconds};
-ghost use Rattle.iso_time.specs.Paper.{ofBalance};
 ghost use Rattle.date_math.specs.Proposal.{directed, calendarDateUntil};
 ghost use Rattle.iso_date_time.specs.Proposal.{dateTime, isoDateTimeWithinLimits, differenceISODateTime, getISOPartsFromEpoch, withOffset};
 ghost use Rattle.iso_date_time.specs.Paper.{ofDateTime, dateTimeLimits, isInstant, isOffset};
-ghost use Rattle.iso_date_time.specs.Inner.{Turns};
+ghost use Rattle.iso_date_time.specs.Inner.{Adjusts};
 
 const NS_PER_DAY: u64 = 86_400_000_000_000;
 
 // The same with a sign, for the bounds of what is handed in.
-const DAY_AFTER: i64 = 86_400_000_000_000;
+const DAY: i64 = 86_400_000_000_000;
 
-const DAY_BEFORE: i64 = -86_400_000_000_000;
+// An instant lies at most so many days from the epoch, and the limits of a moment a day further, both ends outside.
+const MOST_DAYS: i64 = 100_000_000;
 
 const NS_PER_SECOND: u64 = 1_000_000_000;
 
@@ -46,27 +48,8 @@ pub fn within_limits(date: IsoDate, time: IsoTime) -> bool
     ensures { λ r. ⌜ r ≡ isoDateTimeWithinLimits (dateTime date time) ⌝ }
 {
     let day = iso_date::inner::epoch_days(date);
-    if day < -100_000_001 {
-        return false;
-    }
-    if day > 100_000_000 {
-        return false;
-    }
     let ns = nanoseconds_of(time);
-    if day < -100_000_000 {
-        return ns > 0;
-    }
-    true
-}
-
-// The number that a rounding refuses with, 0 where it does not.
-pub fn not_rounded(rounded: BalanceResult) -> u8
-    ensures { λ r. ⌜ r ≡ numberOf (ofBalance rounded) ⌝ }
-{
-    match rounded {
-        BalanceResult::Balanced(b) => 0,
-        BalanceResult::Refused(n) => n,
-    }
+    (-MOST_DAYS - 1 <= day) & (day <= MOST_DAYS) & ((-MOST_DAYS <= day) | (0 < ns))
 }
 
 // A record held to the limits (3).
@@ -80,27 +63,27 @@ pub fn limited(date: IsoDate, time: IsoTime) -> DateTimeResult
     DateTimeResult::Refused(refusal::DATETIME_LIMITS)
 }
 
-// Where the second date is moved to, and the time that is then left: whether it goes forward, and its size.
-pub struct Turn {
+// The day that the second date is moved to, and the time that is then left: whether it goes forward, and its size.
+pub struct Adjustment {
     pub day: u64,
     pub forward: bool,
     pub nanoseconds: u64,
 }
 
 // From day p at nanosecond a to day q at nanosecond b. Where date and time pull opposite ways, a day moves between them.
-fn turned(p: u64, a: u64, q: u64, b: u64) -> Turn
+fn adjusted(p: u64, a: u64, q: u64, b: u64) -> Adjustment
     requires { ⌜ ((a < nsPerDay) × (b < nsPerDay)) × ((p < 2 ^ 51) × (q < 2 ^ 51)) ⌝ }
-    ensures { λ r. ⌜ Turns p a q b (r .day) (r .forward) (r .nanoseconds) ⌝ }
+    ensures { λ r. ⌜ Adjusts p a q b (r .day) (r .forward) (r .nanoseconds) ⌝ }
 {
     if p < q {
         if b < a {
-            return Turn {
+            return Adjustment {
                 day: q - 1,
                 forward: true,
                 nanoseconds: b + NS_PER_DAY - a,
             };
         }
-        return Turn {
+        return Adjustment {
             day: q,
             forward: true,
             nanoseconds: b - a,
@@ -108,22 +91,22 @@ fn turned(p: u64, a: u64, q: u64, b: u64) -> Turn
     }
     if q < p {
         if a < b {
-            return Turn {
+            return Adjustment {
                 day: q + 1,
                 forward: false,
                 nanoseconds: a + NS_PER_DAY - b,
             };
         }
-        return Turn {
+        return Adjustment {
             day: q,
             forward: false,
             nanoseconds: a - b,
         };
     }
-    Turn {
+    Adjustment {
         day: q,
         forward: a <= b,
-        nanoseconds: distance(a, b),
+        nanoseconds: abs_diff(a, b),
     }
 }
 
@@ -133,20 +116,20 @@ fn in_seconds(forward: bool, days: u64, nanoseconds: u64) -> TimeDuration
     ensures { λ r. ⌜ r ≡ inSeconds (directed forward (nsPerDay * days + nanoseconds)) ⌝ }
 {
     TimeDuration {
-        seconds: signed(
+        seconds: directed(
             forward,
             SECONDS_PER_DAY * days + nanoseconds / NS_PER_SECOND,
         ),
-        nanoseconds: signed(forward, nanoseconds % NS_PER_SECOND),
+        nanoseconds: directed(forward, nanoseconds % NS_PER_SECOND),
     }
 }
 
 // The difference of two dates, the second by its day number.
 fn dates_until(one: IsoDate, day: u64, unit: Unit) -> DateDuration
-    requires { ⌜ (isValidISODate one ≡ true) × ((dayBias - 100000000 ≤ day) × (day ≤ dayBias + 100000002)) ⌝ }
-    ensures { λ r. ⌜ r ≡ calendarDateUntil one (epochDaysToISODate (day ⊖ (dayBias + 1))) unit ⌝ }
+    requires { ⌜ (isValidISODate one ≡ true) × ((dayBias - 100000001 ≤ day) × (day ≤ dayBias + 100000001)) ⌝ }
+    ensures { λ r. ⌜ r ≡ calendarDateUntil one (epochDaysToISODate (day ⊖ dayBias)) unit ⌝ }
 {
-    date_math::inner::difference(one, iso_date::inner::civil(day - 1), unit)
+    date_math::inner::difference(one, iso_date::inner::civil(day), unit)
 }
 
 // The difference of two records within the limits.
@@ -159,13 +142,13 @@ pub fn difference(one: IsoDateTime, two: IsoDateTime, unit: Unit) -> InternalDur
     let second = two.date;
     let end = two.time;
     let p = day_up(first);
-    let t = turned(
+    let t = adjusted(
         p,
         nanoseconds_of(start),
         day_up(second),
         nanoseconds_of(end),
     );
-    if unit.rank() > 3 {
+    if unit.rank() > DAY_RANK {
         return InternalDurationRecord {
             date: DateDuration {
                 years: 0,
@@ -173,7 +156,7 @@ pub fn difference(one: IsoDateTime, two: IsoDateTime, unit: Unit) -> InternalDur
                 weeks: 0,
                 days: 0,
             },
-            time: in_seconds(t.forward, distance(p, t.day), t.nanoseconds),
+            time: in_seconds(t.forward, abs_diff(p, t.day), t.nanoseconds),
         };
     }
     InternalDurationRecord {
@@ -186,32 +169,17 @@ pub fn difference(one: IsoDateTime, two: IsoDateTime, unit: Unit) -> InternalDur
 pub fn is_instant(day: i64, nanosecond: i64) -> bool
     ensures { λ r. ⌜ r ≡ isInstant day nanosecond ⌝ }
 {
-    if nanosecond < 0 {
-        return false;
-    }
-    if nanosecond >= DAY_AFTER {
-        return false;
-    }
-    if day < -100_000_000 {
-        return false;
-    }
-    if day < 100_000_000 {
-        return true;
-    }
-    if day > 100_000_000 {
-        return false;
-    }
-    nanosecond <= 0
+    (0 <= nanosecond)
+        & (nanosecond < DAY)
+        & (-MOST_DAYS <= day)
+        & ((day < MOST_DAYS) | ((day <= MOST_DAYS) & (nanosecond <= 0)))
 }
 
 // Whether an offset is below one day in size.
 pub fn is_offset(offset: i64) -> bool
     ensures { λ r. ⌜ r ≡ isOffset offset ⌝ }
 {
-    if offset <= DAY_BEFORE {
-        return false;
-    }
-    offset < DAY_AFTER
+    (-DAY < offset) & (offset < DAY)
 }
 
 // The record of an instant at an offset. Day and nanosecond are raised by a day, so that the sum with the offset is a natural.
@@ -219,8 +187,8 @@ pub fn from_instant(day: i64, nanosecond: i64, offset: i64) -> IsoDateTime
     requires { ⌜ (isInstant day nanosecond ≡ true) × (isOffset offset ≡ true) ⌝ }
     ensures { λ r. ⌜ r ≡ withOffset (getISOPartsFromEpoch day (natAbs nanosecond)) offset ⌝ }
 {
-    let n = whole::inner::above(nanosecond) + whole::inner::raise(offset, NS_PER_DAY);
-    let d = whole::inner::raise(day, DAY_BIAS) + n / NS_PER_DAY - 1;
+    let n = to_natural(nanosecond) + raise(offset, NS_PER_DAY);
+    let d = raise(day, DAY_BIAS) + n / NS_PER_DAY - 1;
     IsoDateTime {
         date: iso_date::inner::civil(d),
         time: iso_time::inner::time_at(n % NS_PER_DAY),

@@ -87,21 +87,21 @@ impl IsoDateTime {
     pub fn round(self, unit: Unit, increment: u64, mode: RoundingMode) -> DateTimeResult
         ensures { λ r. ⌜ ofDateTime r ≡ roundDateTime self unit increment mode ⌝ }
     {
-        let checked = self.check_within_limits();
-        let LimitResult::Within = checked else {
-            return DateTimeResult::Refused(iso_date::inner::refused_by(checked));
-        };
-        let time = self.time;
-        let rounded = time.round(unit, increment, mode);
-        let BalanceResult::Balanced(b) = rounded else {
-            return DateTimeResult::Refused(inner::not_rounded(rounded));
-        };
+        if let LimitResult::Refused(n) = self.check_within_limits() {
+            return DateTimeResult::Refused(n);
+        }
         let date = self.date;
-        let DateResult::Date(day) = date_math::inner::add_days(date, 0, b.days) else {
-            return DateTimeResult::Refused(refusal::DAY_COUNT);
-        };
-        let rest = b.time;
-        inner::limited(day, rest)
+        let time = self.time;
+        match time.round(unit, increment, mode) {
+            BalanceResult::Refused(n) => DateTimeResult::Refused(n),
+            BalanceResult::Balanced(b) => {
+                let DateResult::Date(day) = iso_date::inner::add_days(date, 0, b.days) else {
+                    return DateTimeResult::Refused(refusal::DAY_COUNT);
+                };
+                let rest = b.time;
+                inner::limited(day, rest)
+            }
+        }
     }
 
     // From one record to another, under any unit: each record (1, 3), then the years to days as far as the unit goes and the time
@@ -109,14 +109,12 @@ impl IsoDateTime {
     pub fn diff(self, other: IsoDateTime, unit: Unit) -> DifferenceResult
         ensures { λ r. ⌜ ofDifference r ≡ dateTimeDifference self other unit ⌝ }
     {
-        let first = self.check_within_limits();
-        let LimitResult::Within = first else {
-            return DifferenceResult::Refused(iso_date::inner::refused_by(first));
-        };
-        let second = other.check_within_limits();
-        let LimitResult::Within = second else {
-            return DifferenceResult::Refused(iso_date::inner::refused_by(second));
-        };
+        if let LimitResult::Refused(n) = self.check_within_limits() {
+            return DifferenceResult::Refused(n);
+        }
+        if let LimitResult::Refused(n) = other.check_within_limits() {
+            return DifferenceResult::Refused(n);
+        }
         DifferenceResult::Difference(inner::difference(self, other, unit))
     }
 

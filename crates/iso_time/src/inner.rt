@@ -205,8 +205,8 @@ pub fn span(one: u64, two: u64) -> TimeDuration
     if one <= two {
         let n = two - one;
         return TimeDuration {
-            seconds: whole::inner::plus(n / 1_000_000_000),
-            nanoseconds: whole::inner::plus(n % 1_000_000_000),
+            seconds: whole::inner::from_natural(n / 1_000_000_000),
+            nanoseconds: whole::inner::from_natural(n % 1_000_000_000),
         };
     }
     let n = one - two;

@@ -22,6 +22,15 @@ pub enum Unit {
     Nanosecond,
 }
 
+// The ranks of the units that dates are counted in.
+pub const YEAR_RANK: u8 = 0;
+
+pub const MONTH_RANK: u8 = 1;
+
+pub const WEEK_RANK: u8 = 2;
+
+pub const DAY_RANK: u8 = 3;
+
 impl Unit {
     // A unit's place from the largest on.
     pub fn rank(self) -> u8

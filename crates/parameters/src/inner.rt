@@ -8,8 +8,8 @@ use lines::Number;
 use lines::number_within;
 use lines::read_number;
 use lines::word_end;
-use whole::inner::minus;
-use whole::inner::plus;
+use whole::inner::from_depth;
+use whole::inner::from_natural;
 ghost use mathlib.Core.Path.{_≡_};
 ghost use mathlib.Core.List.{[], _∷_};
 ghost use Prim.Native.Nat.{_≤_};
@@ -147,9 +147,9 @@ pub fn long(n: Numbers, i: usize) -> i64
     let cells = n.cells;
     let c = cells[i];
     if c.negative {
-        return minus(c.size);
+        return from_depth(c.size);
     }
-    plus(c.size)
+    from_natural(c.size)
 }
 
 // A number of 32 bits with a sign.

@@ -15,14 +15,14 @@ use date_duration::SignResult;
 use iso_date::DateResult;
 use iso_date::DayResult;
 use iso_date::LimitResult;
-use iso_date::MonthLength;
+use iso_date::MonthLengthResult;
 use iso_date::YearMonth;
 use iso_date_time::DateTimeResult;
 use iso_date_time::DifferenceResult;
 use iso_time::BalanceResult;
 use iso_time::SpanResult;
 use iso_time::TimeResult;
-use rounding::Rounded;
+use rounding::NumberResult;
 use writing::inner::put_byte;
 use writing::inner::put_digits;
 use writing::inner::put_integer;
@@ -35,20 +35,20 @@ ghost use Rattle.iso_date.specs.Paper.{ofMonthLength, ofDay, ofDate, ofLimit};
 ghost use Rattle.date_duration.specs.Paper.{ofDuration, ofSign};
 ghost use Rattle.iso_date_time.specs.Paper.{ofDateTime, ofDifference};
 ghost use Rattle.iso_time.specs.Paper.{ofTime, ofBalance, ofSpan};
-ghost use Rattle.rounding.specs.Paper.{ofRounded};
+ghost use Rattle.rounding.specs.Paper.{ofNumber};
 ghost use Rattle.writing.specs.Text.{spaced};
 ghost use Rattle.replies.specs.Replies.{Replied, shown, noValues, naturalValue, wholeValue, dateValues, yearMonthValues, timeValues, balancedValues, spanValues, durationValues, signNumber, signValue, dateTimeValues, recordValues};
 
-pub fn length_reply(out: &mut [u8], at: usize, r: MonthLength) -> usize
+pub fn length_reply(out: &mut [u8], at: usize, r: MonthLengthResult) -> usize
     requires { ⌜ at + 255 ≤ length (now out) ⌝ }
     ensures { λ e. ⌜ Replied (now (out .entry)) at (shown naturalValue (ofMonthLength r)) (now (out .exit)) e ⌝ }
 {
     match r {
-        MonthLength::Days(n) => {
+        MonthLengthResult::Days(n) => {
             let next = put_byte(out, at, b'0');
             put_natural(out, next, n as u64)
         }
-        MonthLength::Refused(n) => refusal(out, at, n),
+        MonthLengthResult::Refused(n) => refusal(out, at, n),
     }
 }
 
@@ -136,16 +136,16 @@ pub fn span_reply(out: &mut [u8], at: usize, r: SpanResult) -> usize
     }
 }
 
-pub fn rounded_reply(out: &mut [u8], at: usize, r: Rounded) -> usize
+pub fn rounded_reply(out: &mut [u8], at: usize, r: NumberResult) -> usize
     requires { ⌜ at + 255 ≤ length (now out) ⌝ }
-    ensures { λ e. ⌜ Replied (now (out .entry)) at (shown wholeValue (ofRounded r)) (now (out .exit)) e ⌝ }
+    ensures { λ e. ⌜ Replied (now (out .entry)) at (shown wholeValue (ofNumber r)) (now (out .exit)) e ⌝ }
 {
     match r {
-        Rounded::Number(n) => {
+        NumberResult::Number(n) => {
             let next = put_byte(out, at, b'0');
             put_integer(out, next, n)
         }
-        Rounded::Refused(n) => refusal(out, at, n),
+        NumberResult::Refused(n) => refusal(out, at, n),
     }
 }
 

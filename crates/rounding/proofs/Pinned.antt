@@ -3,17 +3,17 @@ use lib.IntN.{ℤ}
 use mathlib.Core.Path.{_≡_, refl}
 use Rattle.refusal.specs.Answer.{Answer, given, refused}
 use Rattle.refusal.proofs.Answers.{one-result}
-use Rattle.rounding.specs.Paper.{ofRounded}
-use Rattle.rounding.specs.declared.Rounded.{Rounded}
-use Rattle.rounding.specs.declared.Rounded.the-variants as V0
+use Rattle.rounding.specs.Paper.{ofNumber}
+use Rattle.rounding.specs.declared.NumberResult.{NumberResult}
+use Rattle.rounding.specs.declared.NumberResult.the-variants as V0
 
-abbrev to-number : Answer ℤ → Rounded
+abbrev to-number : Answer ℤ → NumberResult
 to-number (given x) = V0.Number x
 to-number (refused n) = V0.Refused n
 
-number-back : (r : Rounded) → to-number (ofRounded r) ≡ r
+number-back : (r : NumberResult) → to-number (ofNumber r) ≡ r
 number-back (V0.Number x) = refl
 number-back (V0.Refused n) = refl
 
-pub one-number : (a : Answer ℤ) (r s : Rounded) → ofRounded r ≡ a → ofRounded s ≡ a → r ≡ s
-one-number = one-result ofRounded to-number number-back
+pub one-number : (a : Answer ℤ) (r s : NumberResult) → ofNumber r ≡ a → ofNumber s ≡ a → r ≡ s
+one-number = one-result ofNumber to-number number-back

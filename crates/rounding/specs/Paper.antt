@@ -7,12 +7,12 @@ use lib.Signed.{leZ}
 use Rattle.refusal.specs.Answer.{Answer, given, refused, check}
 use Rattle.rounding.specs.Proposal.{roundNumberToIncrement, roundNumberToIncrementAsIfPositive}
 use Rattle.rounding.specs.declared.RoundingMode.{RoundingMode}
-use Rattle.rounding.specs.declared.Rounded.{Rounded}
-use Rattle.rounding.specs.declared.Rounded.the-variants as R
+use Rattle.rounding.specs.declared.NumberResult.{NumberResult}
+use Rattle.rounding.specs.declared.NumberResult.the-variants as R
 
-abbrev pub ofRounded : Rounded → Answer ℤ
-ofRounded (R.Number z) = given z
-ofRounded (R.Refused n) = refused n
+abbrev pub ofNumber : NumberResult → Answer ℤ
+ofNumber (R.Number z) = given z
+ofNumber (R.Refused n) = refused n
 
 unfoldable pub inSigned64 : ℤ → Bool
 inSigned64 z = leZ (negℤ (pos (2 ^ 63))) z && leZ z (pos (2 ^ 63 - 1))

@@ -2,14 +2,14 @@
 pub mod inner;
 
 use inner::Size;
-use whole::inner::above;
+use whole::inner::from_natural;
 use whole::inner::negated;
-use whole::inner::plus;
-use whole::inner::size_below;
+use whole::inner::size_of_negative;
+use whole::inner::to_natural;
 ghost use mathlib.Core.Path.{_≡_};
 ghost use Prim.Native.Nat.{_-_, _^_};
 ghost use Rattle.rounding.specs.Inner.{AtMost, positiveSize, negativeSize};
-ghost use Rattle.rounding.specs.Paper.{ofRounded, roundNumber, roundNumberAsIfPositive};
+ghost use Rattle.rounding.specs.Paper.{ofNumber, roundNumber, roundNumberAsIfPositive};
 
 pub enum RoundingMode {
     Ceil,
@@ -32,7 +32,7 @@ pub enum UnsignedRoundingMode {
     HalfEven,
 }
 
-pub enum Rounded {
+pub enum NumberResult {
     Number(i64),
     Refused(u8),
 }
@@ -44,50 +44,50 @@ const MOST_BELOW: u64 = 0x8000_0000_0000_0000;
 
 // A number rounded to a multiple of the step: by its size, with the rule of its sign. A step of 0 is 6, an exact result that 64 bits
 // with a sign do not hold is 7.
-pub fn round(number: i64, step: u64, mode: RoundingMode) -> Rounded
-    ensures { λ r. ⌜ ofRounded r ≡ roundNumber number step mode ⌝ }
+pub fn round(number: i64, step: u64, mode: RoundingMode) -> NumberResult
+    ensures { λ r. ⌜ ofNumber r ≡ roundNumber number step mode ⌝ }
 {
     if step == 0 {
-        return Rounded::Refused(refusal::INCREMENT);
+        return NumberResult::Refused(refusal::INCREMENT);
     }
     if number < 0 {
         let rule = inner::get_unsigned_round_mode(mode, true);
-        return negative(inner::round_size(size_below(number), step, rule, MOST_BELOW));
+        return negative(inner::round_size(size_of_negative(number), step, rule, MOST_BELOW));
     }
     let rule = inner::get_unsigned_round_mode(mode, false);
-    positive(inner::round_size(above(number), step, rule, MOST_ABOVE))
+    positive(inner::round_size(to_natural(number), step, rule, MOST_ABOVE))
 }
 
 // The same with no turn of sign: below zero too the two choices are the floor and the next multiple, by the rule of positive numbers.
-pub fn round_as_if_positive(number: i64, step: u64, mode: RoundingMode) -> Rounded
-    ensures { λ r. ⌜ ofRounded r ≡ roundNumberAsIfPositive number step mode ⌝ }
+pub fn round_as_if_positive(number: i64, step: u64, mode: RoundingMode) -> NumberResult
+    ensures { λ r. ⌜ ofNumber r ≡ roundNumberAsIfPositive number step mode ⌝ }
 {
     if step == 0 {
-        return Rounded::Refused(refusal::INCREMENT);
+        return NumberResult::Refused(refusal::INCREMENT);
     }
     let rule = inner::get_unsigned_round_mode(mode, false);
     if number < 0 {
-        return negative(inner::round_size_below(size_below(number), step, rule));
+        return negative(inner::round_size_below(size_of_negative(number), step, rule));
     }
-    positive(inner::round_size(above(number), step, rule, MOST_ABOVE))
+    positive(inner::round_size(to_natural(number), step, rule, MOST_ABOVE))
 }
 
-fn positive(size: Size) -> Rounded
+fn positive(size: Size) -> NumberResult
     requires { ⌜ AtMost (2 ^ 63 - 1) size ⌝ }
-    ensures { λ r. ⌜ ofRounded r ≡ positiveSize size ⌝ }
+    ensures { λ r. ⌜ ofNumber r ≡ positiveSize size ⌝ }
 {
     match size {
-        Size::Is(n) => Rounded::Number(plus(n)),
-        Size::Past => Rounded::Refused(refusal::BOUND),
+        Size::Is(n) => NumberResult::Number(from_natural(n)),
+        Size::Past => NumberResult::Refused(refusal::BOUND),
     }
 }
 
-fn negative(size: Size) -> Rounded
+fn negative(size: Size) -> NumberResult
     requires { ⌜ AtMost (2 ^ 63) size ⌝ }
-    ensures { λ r. ⌜ ofRounded r ≡ negativeSize size ⌝ }
+    ensures { λ r. ⌜ ofNumber r ≡ negativeSize size ⌝ }
 {
     match size {
-        Size::Is(n) => Rounded::Number(negated(n)),
-        Size::Past => Rounded::Refused(refusal::BOUND),
+        Size::Is(n) => NumberResult::Number(negated(n)),
+        Size::Past => NumberResult::Refused(refusal::BOUND),
     }
 }

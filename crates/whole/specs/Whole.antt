@@ -1,5 +1,5 @@
 -- Whole numbers of either sign, as the definitions of this library use them. Nothing of calendars.
-use Prim.Native.Nat.{ℕ, suc, _-_, _/_, _%_}
+use Prim.Native.Nat.{ℕ, suc, _+_, _-_, _/_, _%_}
 use mathlib.Core.Bool.{cond}
 use lib.IntN.{ℤ, pos, negsuc, subℕ}
 use lib.Signed.{ltZ}
@@ -22,3 +22,7 @@ fmod (negsuc a) d = d - suc (a % d)
 -- the number from low to high that is nearest to z
 unfoldable pub clampZ : ℤ → ℤ → ℤ → ℤ
 clampZ z low high = cond (ltZ z low) low (cond (ltZ high z) high z)
+
+-- how far apart two naturals are
+abbrev pub apart : ℕ → ℕ → ℕ
+apart a b = (a - b) + (b - a)

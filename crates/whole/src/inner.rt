@@ -1,9 +1,10 @@
 // Each function asks of its caller that what it gives back fits, and says what that is as a whole number.
 ghost use mathlib.Core.Path.{_≡_};
+ghost use mathlib.Core.Bool.{cond};
 ghost use Prim.Native.Nat.{_+_, _<_, _≤_, _^_};
 ghost use lib.IntN.{pos, negsuc, negℤ};
 ghost use lib.Signed.{_≤ℤ_, _<ℤ_};
-ghost use Rattle.whole.specs.Whole.{_⊖_};
+ghost use Rattle.whole.specs.Whole.{_⊖_, apart};
 
 // x + k, a natural.
 pub fn raise(x: i64, k: u64) -> u64
@@ -38,15 +39,15 @@ pub fn lower32(u: u64, k: u64) -> i32
 }
 
 // A number that is not negative, as a natural.
-pub fn above(x: i64) -> u64
+pub fn to_natural(x: i64) -> u64
     requires { ⌜ pos 0 ≤ℤ x ⌝ }
     ensures { λ r. ⌜ (x ≡ pos r) × (r < 2 ^ 63) ⌝ }
 {
     x as u64
 }
 
-// How far a negative number lies below -1.
-pub fn below(x: i64) -> u64
+// How far a negative number lies below -1, its depth: a natural below 2^63, where its size may be 2^63.
+pub fn to_depth(x: i64) -> u64
     requires { ⌜ x <ℤ pos 0 ⌝ }
     ensures { λ r. ⌜ (x ≡ negsuc r) × (r < 2 ^ 63) ⌝ }
 {
@@ -54,15 +55,15 @@ pub fn below(x: i64) -> u64
 }
 
 // A natural as a signed number.
-pub fn plus(n: u64) -> i64
+pub fn from_natural(n: u64) -> i64
     requires { ⌜ n < 2 ^ 63 ⌝ }
     ensures { λ r. ⌜ r ≡ pos n ⌝ }
 {
     n as i64
 }
 
-// The number that lies n below -1.
-pub fn minus(n: u64) -> i64
+// The number of a depth.
+pub fn from_depth(n: u64) -> i64
     requires { ⌜ n < 2 ^ 63 ⌝ }
     ensures { λ r. ⌜ r ≡ negsuc n ⌝ }
 {
@@ -77,13 +78,34 @@ pub fn negated(n: u64) -> i64
     if n == 0 {
         return 0;
     }
-    minus(n - 1)
+    from_depth(n - 1)
 }
 
 // The size of a negative number.
-pub fn size_below(x: i64) -> u64
+pub fn size_of_negative(x: i64) -> u64
     requires { ⌜ x <ℤ pos 0 ⌝ }
     ensures { λ r. ⌜ (x ≡ negℤ (pos r)) × ((1 ≤ r) × (r ≤ 2 ^ 63)) ⌝ }
 {
-    below(x) + 1
+    to_depth(x) + 1
+}
+
+// How far apart two naturals are.
+pub fn abs_diff(a: u64, b: u64) -> u64
+    ensures { λ r. ⌜ r ≡ apart a b ⌝ }
+{
+    if a < b {
+        return b - a;
+    }
+    a - b
+}
+
+// A count in a direction: n forward, -n backward.
+pub fn directed(forward: bool, n: u64) -> i64
+    requires { ⌜ n < 2 ^ 63 ⌝ }
+    ensures { λ r. ⌜ r ≡ cond forward (pos n) (negℤ (pos n)) ⌝ }
+{
+    if forward {
+        return from_natural(n);
+    }
+    negated(n)
 }

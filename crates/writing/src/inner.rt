@@ -1,6 +1,6 @@
 // Numbers written into a lent buffer, from a place of it on. Each function returns the place after what it wrote.
-use whole::inner::above;
-use whole::inner::below;
+use whole::inner::to_depth;
+use whole::inner::to_natural;
 ghost use mathlib.Core.Path.{_≡_};
 ghost use mathlib.Core.List.{[], _∷_};
 ghost use Prim.Native.Nat.{_+_, _≤_, _<_};
@@ -28,9 +28,9 @@ pub fn put_integer(out: &mut [u8], at: usize, z: i64) -> usize
     let next = put_byte(out, at, b' ');
     if z < 0 {
         let start = put_byte(out, next, b'-');
-        return put_digits(out, start, below(z) + 1);
+        return put_digits(out, start, to_depth(z) + 1);
     }
-    put_digits(out, next, above(z))
+    put_digits(out, next, to_natural(z))
 }
 
 // Writes a value that is never negative: a space, and a natural.

@@ -62,17 +62,5 @@ returns-2 c =
 pub answer-block-spec : {M : Type 1} → statement M
 answer-block-spec =
     tie.close
-    (tie.spec
-    Inv-loop
-    μ-loop
-    loop-holds
-    (λ c κs. search needs)
-    write-out-requires
-    (λ c. search needs)
-    (λ c. search needs)
-    returns
-    loop-less
-    loop-again
-    (λ c. search needs)
-    (λ c. search needs)
-    returns-2)
+    (tie.spec Inv-loop μ-loop loop-holds (λ c κs. search needs) write-out-requires (λ c. search needs) (λ c. search needs) returns loop-less
+    loop-again (λ c. search needs) (λ c. search needs) returns-2)

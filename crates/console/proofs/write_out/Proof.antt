@@ -11,11 +11,5 @@ returns-3 c = λ z. absurd (c .before .before .before .before .before .if1 .left
 pub write-out-spec : {M : Type 1} → statement M
 write-out-spec =
     tie.close
-    (tie.spec
-    (λ c. search needs)
-    (λ c. sym (length-take-le _ _ (c .before .before .before .pre)))
-    (λ c κs. search needs)
-    (λ c. search needs)
-    (λ c. search needs)
-    (λ c κs. search needs)
-    returns-3)
+    (tie.spec (λ c. search needs) (λ c. sym (length-take-le _ _ (c .before .before .before .pre))) (λ c κs. search needs) (λ c. search needs)
+    (λ c. search needs) (λ c κs. search needs) returns-3)

@@ -6,18 +6,6 @@ use Rattle.date_duration.specs.Proposal.{allSmall}
 use Rattle.date_duration.proofs.all_small.Statement.{statement}
 use Rattle.date_duration.proofs.all_small.Tie as tie
 
-is-small-requires : tie.Need-is-small-requires
-is-small-requires c κs = search needs
-
-is-small-requires-2 : tie.Need-is-small-requires-2
-is-small-requires-2 c κs = search needs
-
-is-small-requires-3 : tie.Need-is-small-requires-3
-is-small-requires-3 c κs = search needs
-
-is-small-in-days-requires : tie.Need-is-small-in-days-requires
-is-small-in-days-requires c κs = search needs
-
 returns : tie.Need-returns
 unfolding allSmall
 returns c =
@@ -31,10 +19,4 @@ returns c =
 
 pub all-small-spec : {M : Type 1} → statement M
 all-small-spec =
-    tie.close
-    (tie.spec
-    is-small-requires
-    is-small-requires-2
-    is-small-requires-3
-    is-small-in-days-requires
-    returns)
+    tie.close (tie.spec (λ c κs. search needs) (λ c κs. search needs) (λ c κs. search needs) (λ c κs. search needs) returns)

@@ -5,15 +5,6 @@ use Rattle.date_duration.specs.Proposal.{isValidDuration}
 use Rattle.date_duration.proofs.are_valid.Statement.{statement}
 use Rattle.date_duration.proofs.are_valid.Tie as tie
 
-any-below-requires : tie.Need-any-below-requires
-any-below-requires c κs = search needs
-
-any-above-requires : tie.Need-any-above-requires
-any-above-requires c κs = search needs
-
-all-small-requires : tie.Need-all-small-requires
-all-small-requires c κs = search needs
-
 returns : tie.Need-returns
 unfolding isValidDuration
 returns c =
@@ -23,4 +14,4 @@ returns c =
 
 pub are-valid-spec : {M : Type 1} → statement M
 are-valid-spec =
-    tie.close (tie.spec any-below-requires any-above-requires all-small-requires returns)
+    tie.close (tie.spec (λ c κs. search needs) (λ c κs. search needs) (λ c κs. search needs) returns)

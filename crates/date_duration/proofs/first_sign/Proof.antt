@@ -9,18 +9,12 @@ use Rattle.date_duration.proofs.Durations.{first-is, first-none}
 use Rattle.date_duration.proofs.first_sign.Statement.{statement}
 use Rattle.date_duration.proofs.first_sign.Tie as tie
 
-sign-of-requires : tie.Need-sign-of-requires
-sign-of-requires c κs = search needs
-
 returns : tie.Need-returns
 unfolding dateDurationSign
 returns c =
     let s = c .before .before in
     let e = rw (toZ-ofZ (s .fits .years)) at (c .sign-of .ensures) in
     e ∙ first-is (s .args .years) _ (λ z. c .before .if1 .taken (ap (ofZ w64) z))
-
-sign-of-requires-2 : tie.Need-sign-of-requires-2
-sign-of-requires-2 c κs = search needs
 
 returns-2 : tie.Need-returns-2
 unfolding dateDurationSign
@@ -29,18 +23,12 @@ returns-2 c =
     let e = rw (toZ-ofZ (s .fits .months)) at (c .sign-of2 .ensures) in
     e ∙ first-is (s .args .months) _ (λ z. c .before .if2 .taken (ap (ofZ w64) z)) ∙ first-none (s .args .years) _ (sym (toZ-ofZ (s .fits .years)) ∙ ap (toZ w64) (c .before .before .if1 .left))
 
-sign-of-requires-3 : tie.Need-sign-of-requires-3
-sign-of-requires-3 c κs = search needs
-
 returns-3 : tie.Need-returns-3
 unfolding dateDurationSign
 returns-3 c =
     let s = c .before .before .before .before in
     let e = rw (toZ-ofZ (s .fits .weeks)) at (c .sign-of3 .ensures) in
     e ∙ first-is (s .args .weeks) _ (λ z. c .before .if3 .taken (ap (ofZ w64) z)) ∙ first-none (s .args .months) _ (sym (toZ-ofZ (s .fits .months)) ∙ ap (toZ w64) (c .before .before .if2 .left)) ∙ first-none (s .args .years) _ (sym (toZ-ofZ (s .fits .years)) ∙ ap (toZ w64) (c .before .before .before .if1 .left))
-
-sign-of-requires-4 : tie.Need-sign-of-requires-4
-sign-of-requires-4 c κs = search needs
 
 returns-4 : tie.Need-returns-4
 unfolding dateDurationSign
@@ -52,12 +40,4 @@ returns-4 c =
 pub first-sign-spec : {M : Type 1} → statement M
 first-sign-spec =
     tie.close
-    (tie.spec
-    sign-of-requires
-    returns
-    sign-of-requires-2
-    returns-2
-    sign-of-requires-3
-    returns-3
-    sign-of-requires-4
-    returns-4)
+    (tie.spec (λ c κs. search needs) returns (λ c κs. search needs) returns-2 (λ c κs. search needs) returns-3 (λ c κs. search needs) returns-4)

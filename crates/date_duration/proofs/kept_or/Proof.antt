@@ -7,12 +7,6 @@ use mir.Val.{toZ, ofZ}
 use Rattle.date_duration.proofs.kept_or.Statement.{statement}
 use Rattle.date_duration.proofs.kept_or.Tie as tie
 
-enum-told : tie.Need-enum-told
-enum-told c = search needs
-
-enum-known-part : tie.Need-enum-known-part
-enum-known-part c = search needs
-
 returns : tie.Need-returns
 returns c =
     let s = c .before .before in
@@ -25,4 +19,4 @@ returns-2 c =
     rw (back, c .before .part .given .1)
 
 pub kept-or-spec : {M : Type 1} → statement M
-kept-or-spec = tie.close (tie.spec enum-told enum-known-part returns returns-2)
+kept-or-spec = tie.close (tie.spec (λ c. search needs) (λ c. search needs) returns returns-2)

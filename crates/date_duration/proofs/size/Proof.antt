@@ -10,19 +10,16 @@ use Rattle.date_duration.proofs.Durations.{size-small, size-below, size
 use Rattle.date_duration.proofs.size.Statement.{statement}
 use Rattle.date_duration.proofs.size.Tie as tie
 
-size-below-requires : tie.Need-size-below-requires
-size-below-requires c κs = search needs
-
-plus-requires : tie.Need-plus-requires
-plus-requires c κs =
+from-natural-requires : tie.Need-from-natural-requires
+from-natural-requires c κs =
     let s = c .before .before in
-    size-small _ _ (sym (toZ-ofZ (s .fits .x)) ∙ c .size-below .ensures .0) (s .pre)
+    size-small _ _ (sym (toZ-ofZ (s .fits .x)) ∙ c .size-of-negative .ensures .0) (s .pre)
 
 returns : tie.Need-returns
 returns c =
     let s = c .before .before .before in
-    toZ-ofZ (record { sfits = c .plus .ok }) ∙
-    size-below _ _ (sym (toZ-ofZ (s .fits .x)) ∙ c .before .size-below .ensures .0) _ (c .plus .ensures)
+    toZ-ofZ (record { sfits = c .from-natural .ok }) ∙
+    size-below _ _ (sym (toZ-ofZ (s .fits .x)) ∙ c .before .size-of-negative .ensures .0) _ (c .from-natural .ensures)
 
 returns-2 : tie.Need-returns-2
 returns-2 c =
@@ -31,4 +28,4 @@ returns-2 c =
     toZ-ofZ (s .fits .x) ∙ size-above (s .args .x) h
 
 pub size-spec : {M : Type 1} → statement M
-size-spec = tie.close (tie.spec size-below-requires plus-requires returns returns-2)
+size-spec = tie.close (tie.spec (λ c κs. search needs) from-natural-requires returns returns-2)

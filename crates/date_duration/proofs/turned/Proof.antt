@@ -9,32 +9,25 @@ use Rattle.date_duration.proofs.Durations.{size-small, turned-below}
 use Rattle.date_duration.proofs.turned.Statement.{statement}
 use Rattle.date_duration.proofs.turned.Tie as tie
 
-size-below-requires : tie.Need-size-below-requires
-size-below-requires c κs = search needs
-
-plus-requires : tie.Need-plus-requires
-plus-requires c κs =
+from-natural-requires : tie.Need-from-natural-requires
+from-natural-requires c κs =
     let s = c .before .before in
-    size-small _ _ (sym (toZ-ofZ (s .fits .x)) ∙ c .size-below .ensures .0) (s .pre)
+    size-small _ _ (sym (toZ-ofZ (s .fits .x)) ∙ c .size-of-negative .ensures .0) (s .pre)
 
 returns : tie.Need-returns
 returns c =
     let s = c .before .before .before in
-    toZ-ofZ (record { sfits = c .plus .ok }) ∙
-    turned-below _ _ (sym (toZ-ofZ (s .fits .x)) ∙ c .before .size-below .ensures .0) _ (c .plus .ensures)
+    toZ-ofZ (record { sfits = c .from-natural .ok }) ∙
+    turned-below _ _ (sym (toZ-ofZ (s .fits .x)) ∙ c .before .size-of-negative .ensures .0) _ (c .from-natural .ensures)
 
-above-requires : tie.Need-above-requires
-above-requires c κs = omega (arith, ints)
-
-negated-requires : tie.Need-negated-requires
-negated-requires c κs = search needs
+to-natural-requires : tie.Need-to-natural-requires
+to-natural-requires c κs = omega (arith, ints)
 
 returns-2 : tie.Need-returns-2
 returns-2 c =
     let s = c .before .before .before in
-    toZ-ofZ (record { sfits = c .negated .ok }) ∙ c .negated .ensures ∙ ap negℤ (sym (sym (toZ-ofZ (s .fits .x)) ∙ c .before .above .ensures .0))
+    toZ-ofZ (record { sfits = c .negated .ok }) ∙ c .negated .ensures ∙ ap negℤ (sym (sym (toZ-ofZ (s .fits .x)) ∙ c .before .to-natural .ensures .0))
 
 pub turned-spec : {M : Type 1} → statement M
 turned-spec =
-    tie.close
-    (tie.spec size-below-requires plus-requires returns above-requires negated-requires returns-2)
+    tie.close (tie.spec (λ c κs. search needs) from-natural-requires returns to-natural-requires (λ c κs. search needs) returns-2)

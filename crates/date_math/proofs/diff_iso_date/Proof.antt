@@ -1,78 +1,45 @@
 -- The two dates checked in turn, then the unit; the rest is the difference of two valid dates.
 use borrow.Author.Needs.{needs}
-use mathlib.Core.Path.{sym, _∙_, ap}
-use Rattle.iso_date.specs.Paper.{ofLimit}
+use mathlib.Core.Path.{_≡_, sym, _∙_, ap}
+use Rattle.refusal.specs.Answer.{given}
+use Rattle.iso_date.specs.Paper.{ofLimit, dateLimits}
 use Rattle.date_math.proofs.Sums.{limits-valid, difference-first, difference-second, difference-unit, difference-given}
 use Rattle.date_math.proofs.diff_iso_date.Statement.{statement}
 use Rattle.date_math.proofs.diff_iso_date.Tie as tie
 
-check-within-limits-requires : tie.Need-check-within-limits-requires
-check-within-limits-requires c κs = search needs
+first-passed : (c : tie.After-enum-told) → given tt ≡ dateLimits (c .before .before .before .args .one)
+first-passed c = sym (ap ofLimit (c .enum-told .given .1)) ∙ c .before .before .check-within-limits .ensures
 
-enum-told : tie.Need-enum-told
-enum-told c = search needs
-
-enum-told-2 : tie.Need-enum-told-2
-enum-told-2 c = search needs
-
-refused-by-requires : tie.Need-refused-by-requires
-refused-by-requires c κs = search needs
+second-passed : (c : tie.After-enum-told2) → given tt ≡ dateLimits (c .before .before .before .before .before .before .args .two)
+second-passed c = sym (ap ofLimit (c .enum-told2 .given .1)) ∙ c .before .before .check-within-limits2 .ensures
 
 returns : tie.Need-returns
-returns c =
-    difference-first _ _ _ _ _ _ (ap ofLimit (c .before .enum-told2 .given .1)) (c .refused-by .ensures) (c .before .before .before .check-within-limits .ensures)
-
-check-within-limits-requires-2 : tie.Need-check-within-limits-requires-2
-check-within-limits-requires-2 c κs = search needs
-
-enum-told-3 : tie.Need-enum-told-3
-enum-told-3 c = search needs
-
-enum-told-4 : tie.Need-enum-told-4
-enum-told-4 c = search needs
-
-refused-by-requires-2 : tie.Need-refused-by-requires-2
-refused-by-requires-2 c κs = search needs
+returns c = let a = c .before in difference-first _ _ _ _ (sym (ap ofLimit (a .n .given .1)) ∙ a .before .before .check-within-limits .ensures)
 
 returns-2 : tie.Need-returns-2
 returns-2 c =
-    difference-second _ _ _ _ _ _ (sym (ap ofLimit (c .before .before .before .before .enum-told .given .1)) ∙ c .before .before .before .before .before .before .check-within-limits .ensures)
-    (ap ofLimit (c .before .enum-told4 .given .1)) (c .refused-by2 .ensures) (c .before .before .before .check-within-limits2 .ensures)
-
-rank-requires : tie.Need-rank-requires
-rank-requires c κs = search needs
+    let a = c .before in
+    let b = a .before .before in
+    difference-second _ _ _ _ (first-passed (b .before)) (sym (ap ofLimit (a .n2 .given .1)) ∙ b .check-within-limits2 .ensures)
 
 returns-3 : tie.Need-returns-3
 returns-3 c =
-    difference-unit _ _ _ _ (sym (ap ofLimit (c .before .before .before .before .before .enum-told .given .1)) ∙ c .before .before .before .before .before .before .before .check-within-limits .ensures) (sym (ap ofLimit (c .before .before .enum-told3 .given .1)) ∙ c .before .before .before .before .check-within-limits2 .ensures)
-    (c .before .rank .ensures) (c .if1 .taken)
+    let a = c .before .before in
+    difference-unit _ _ _ _ (first-passed (a .before .before .before)) (second-passed a) (c .before .rank .ensures) (c .if1 .taken)
 
 difference-requires : tie.Need-difference-requires
-difference-requires c κs = (
-  limits-valid _ (sym (ap ofLimit (c .before .before .before .before .before .enum-told .given .1)) ∙ c .before .before .before .before .before .before .before .check-within-limits .ensures),
-  limits-valid _ (sym (ap ofLimit (c .before .before .enum-told3 .given .1)) ∙ c .before .before .before .before .check-within-limits2 .ensures),
-)
+difference-requires c κs =
+    let a = c .before .before in
+    (limits-valid _ (first-passed (a .before .before .before)), limits-valid _ (second-passed a))
 
 returns-4 : tie.Need-returns-4
 returns-4 c =
-    difference-given _ _ _ _ _ (sym (ap ofLimit (c .before .before .before .before .before .before .enum-told .given .1)) ∙ c .before .before .before .before .before .before .before .before .check-within-limits .ensures) (sym (ap ofLimit (c .before .before .before .enum-told3 .given .1)) ∙ c .before .before .before .before .before .check-within-limits2 .ensures)
-    (c .before .before .rank .ensures) (c .before .if1 .left) (c .difference .ensures)
+    let e = c .before in
+    let a = e .before .before in
+    difference-given _ _ _ _ _ (first-passed (a .before .before .before)) (second-passed a) (e .before .rank .ensures) (e .if1 .left) (c .difference .ensures)
 
 pub diff-iso-date-spec : {M : Type 1} → statement M
 diff-iso-date-spec =
     tie.close
-    (tie.spec
-    check-within-limits-requires
-    enum-told
-    enum-told-2
-    refused-by-requires
-    returns
-    check-within-limits-requires-2
-    enum-told-3
-    enum-told-4
-    refused-by-requires-2
-    returns-2
-    rank-requires
-    returns-3
-    difference-requires
-    returns-4)
+    (tie.spec (λ c κs. search needs) (λ c. search needs) returns (λ c. search needs) (λ c κs. search needs) (λ c. search needs) returns-2
+    (λ c. search needs) (λ c κs. search needs) returns-3 difference-requires returns-4)

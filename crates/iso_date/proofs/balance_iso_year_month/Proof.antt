@@ -6,24 +6,6 @@ use Rattle.iso_date.proofs.Answers.{year-month-is}
 use Rattle.iso_date.proofs.balance_iso_year_month.Statement.{statement}
 use Rattle.iso_date.proofs.balance_iso_year_month.Tie as tie
 
-year-up-requires : tie.Need-year-up-requires
-year-up-requires c κs = search needs
-
-month-up-requires : tie.Need-month-up-requires
-month-up-requires c κs = search needs
-
-balance-up-requires : tie.Need-balance-up-requires
-balance-up-requires c κs = search needs
-
-year-down-requires : tie.Need-year-down-requires
-year-down-requires c κs = search needs
-
-add-t4 : tie.Need-add-t4
-add-t4 c = search needs
-
-cast-t7 : tie.Need-cast-t7
-cast-t7 c = search needs
-
 returns : tie.Need-returns
 returns c =
     let a = c .before .before in
@@ -35,11 +17,5 @@ returns c =
 pub balance-iso-year-month-spec : {M : Type 1} → statement M
 balance-iso-year-month-spec =
     tie.close
-    (tie.spec
-    year-up-requires
-    month-up-requires
-    balance-up-requires
-    year-down-requires
-    add-t4
-    cast-t7
+    (tie.spec (λ c κs. search needs) (λ c κs. search needs) (λ c κs. search needs) (λ c κs. search needs) (λ c. search needs) (λ c. search needs)
     returns)

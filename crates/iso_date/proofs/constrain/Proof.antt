@@ -5,12 +5,6 @@ use Rattle.iso_date.proofs.Answers.{constrained-valid, length-positive}
 use Rattle.iso_date.proofs.constrain.Statement.{statement}
 use Rattle.iso_date.proofs.constrain.Tie as tie
 
-clamp-to-requires : tie.Need-clamp-to-requires
-clamp-to-requires c κs = search needs
-
-days-in-month-requires : tie.Need-days-in-month-requires
-days-in-month-requires c κs = search needs
-
 clamp-to-requires-2 : tie.Need-clamp-to-requires-2
 clamp-to-requires-2 c κs = rw (c .days-in-month .ensures .0) (length-positive _ _ (c .before .clamp-to .ensures .1 .0) (c .before .clamp-to .ensures .1 .1))
 
@@ -25,4 +19,4 @@ returns c =
 
 pub constrain-spec : {M : Type 1} → statement M
 constrain-spec =
-    tie.close (tie.spec clamp-to-requires days-in-month-requires clamp-to-requires-2 returns)
+    tie.close (tie.spec (λ c κs. search needs) (λ c κs. search needs) clamp-to-requires-2 returns)

@@ -6,24 +6,6 @@ use Rattle.iso_time.specs.Paper.{allBounded}
 use Rattle.iso_time.proofs.are_bounded.Statement.{statement}
 use Rattle.iso_time.proofs.are_bounded.Tie as tie
 
-is-bounded-requires : tie.Need-is-bounded-requires
-is-bounded-requires c κs = search needs
-
-is-bounded-requires-2 : tie.Need-is-bounded-requires-2
-is-bounded-requires-2 c κs = search needs
-
-is-bounded-requires-3 : tie.Need-is-bounded-requires-3
-is-bounded-requires-3 c κs = search needs
-
-is-bounded-requires-4 : tie.Need-is-bounded-requires-4
-is-bounded-requires-4 c κs = search needs
-
-is-bounded-requires-5 : tie.Need-is-bounded-requires-5
-is-bounded-requires-5 c κs = search needs
-
-is-bounded-requires-6 : tie.Need-is-bounded-requires-6
-is-bounded-requires-6 c κs = search needs
-
 returns : tie.Need-returns
 unfolding allBounded
 returns c =
@@ -40,11 +22,5 @@ returns c =
 pub are-bounded-spec : {M : Type 1} → statement M
 are-bounded-spec =
     tie.close
-    (tie.spec
-    is-bounded-requires
-    is-bounded-requires-2
-    is-bounded-requires-3
-    is-bounded-requires-4
-    is-bounded-requires-5
-    is-bounded-requires-6
-    returns)
+    (tie.spec (λ c κs. search needs) (λ c κs. search needs) (λ c κs. search needs) (λ c κs. search needs) (λ c κs. search needs)
+    (λ c κs. search needs) returns)

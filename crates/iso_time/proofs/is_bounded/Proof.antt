@@ -7,9 +7,6 @@ use Rattle.whole.proofs.Laws.{ints, size-past, size-decides}
 use Rattle.iso_time.proofs.is_bounded.Statement.{statement}
 use Rattle.iso_time.proofs.is_bounded.Tie as tie
 
-sub-if1 : tie.Need-sub-if1
-sub-if1 c = search needs
-
 returns : tie.Need-returns
 returns c = sym (size-past (c .before .args .x) 9007199254740991 (omega (arith, ints)))
 
@@ -19,4 +16,4 @@ returns-2 c =
     rw (toZ-ofZ (s .fits .x)) (size-decides (s .args .x) 9007199254740991 (omega (arith, ints)))
 
 pub is-bounded-spec : {M : Type 1} → statement M
-is-bounded-spec = tie.close (tie.spec sub-if1 returns returns-2)
+is-bounded-spec = tie.close (tie.spec (λ c. search needs) returns returns-2)

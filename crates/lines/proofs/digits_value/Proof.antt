@@ -70,19 +70,5 @@ returns-4 c =
 pub digits-value-spec : {M : Type 1} → statement M
 digits-value-spec =
     tie.close
-    (tie.spec
-    Inv-loop
-    μ-loop
-    loop-holds
-    shared-slice-read-b
-    returns
-    returns-2
-    cast-digit
-    sub-if3
-    returns-3
-    mul-value
-    add-value
-    add-at
-    loop-less
-    loop-again
-    returns-4)
+    (tie.spec Inv-loop μ-loop loop-holds shared-slice-read-b returns returns-2 cast-digit sub-if3 returns-3 mul-value add-value add-at loop-less
+    loop-again returns-4)

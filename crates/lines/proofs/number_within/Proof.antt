@@ -6,24 +6,15 @@ use Rattle.lines.proofs.Within.{above-high, upto-high, below-low, upto-
 use Rattle.lines.proofs.number_within.Statement.{statement}
 use Rattle.lines.proofs.number_within.Tie as tie
 
-enum-known-x : tie.Need-enum-known-x
-enum-known-x c = search needs
-
 returns : tie.Need-returns
 returns c =
     let a = c .before .before .before .before .args in
     rw (c .before .before .x .given .1) (sym (above-high (a .below) (a .high) (c .before .before .x .given .0 .0) (omega arith)))
 
-enum-known-x-2 : tie.Need-enum-known-x-2
-enum-known-x-2 c = search needs
-
 returns-2 : tie.Need-returns-2
 returns-2 c =
     let a = c .before .before .before .before .args in
     rw (c .before .before .x2 .given .1) (sym (below-low (a .below) (a .high) (c .before .before .x2 .given .0 .0) (omega arith)))
-
-enum-told : tie.Need-enum-told
-enum-told c = search needs
 
 returns-3 : tie.Need-returns-3
 returns-3 c =
@@ -42,13 +33,4 @@ returns-5 c =
 
 pub number-within-spec : {M : Type 1} → statement M
 number-within-spec =
-    tie.close
-    (tie.spec
-    enum-known-x
-    returns
-    enum-known-x-2
-    returns-2
-    enum-told
-    returns-3
-    returns-4
-    returns-5)
+    tie.close (tie.spec (λ c. search needs) returns (λ c. search needs) returns-2 (λ c. search needs) returns-3 returns-4 returns-5)

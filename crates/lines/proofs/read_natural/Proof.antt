@@ -10,14 +10,8 @@ use Rattle.lines.proofs.read_natural.Tie as tie
 returns : tie.Need-returns
 returns c = sym (natural-empty (c .before .before .args .text .now) (c .if1 .taken))
 
-shared-slice-read-if3 : tie.Need-shared-slice-read-if3
-shared-slice-read-if3 c = search needs
-
 returns-2 : tie.Need-returns-2
 returns-2 c = sym (natural-zeros (c .before .before .before .before .before .args .text .now) (omega arith) (c .if3 .taken))
-
-digits-value-requires : tie.Need-digits-value-requires
-digits-value-requires c κs = search needs
 
 returns-3 : tie.Need-returns-3
 returns-3 c =
@@ -27,4 +21,4 @@ returns-3 c =
 
 pub read-natural-spec : {M : Type 1} → statement M
 read-natural-spec =
-    tie.close (tie.spec returns shared-slice-read-if3 returns-2 digits-value-requires returns-3)
+    tie.close (tie.spec returns (λ c. search needs) returns-2 (λ c κs. search needs) returns-3)

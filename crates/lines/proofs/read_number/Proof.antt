@@ -14,18 +14,6 @@ use Rattle.lines.proofs.read_number.Tie as tie
 returns : tie.Need-returns
 returns c = sym (number-empty (c .before .before .args .text .now) (c .if1 .taken))
 
-shared-slice-read-if2 : tie.Need-shared-slice-read-if2
-shared-slice-read-if2 c = search needs
-
-read-natural-requires : tie.Need-read-natural-requires
-read-natural-requires c κs = search needs
-
-enum-known-n : tie.Need-enum-known-n
-enum-known-n c = search needs
-
-enum-told : tie.Need-enum-told
-enum-told c = search needs
-
 returns-2 : tie.Need-returns-2
 returns-2 c =
     ap ofNatural (sym (c .enum-told .given .1)) ∙
@@ -37,24 +25,6 @@ returns-3 c =
     ap ofNatural (sym (c .before .n .given .1)) ∙
     c .before .before .before .read-natural .ensures ∙
     sym (number-plain (c .before .before .before .before .before .before .before .before .args .text .now) (c .before .before .before .before .before .before .if1 .left) (c .before .before .before .before .if2 .taken))
-
-sub-read-natural : tie.Need-sub-read-natural
-sub-read-natural c = search needs
-
-part-read-natural-start : tie.Need-part-read-natural-start
-part-read-natural-start c = search needs
-
-part-read-natural-end : tie.Need-part-read-natural-end
-part-read-natural-end c = search needs
-
-read-natural-requires-2 : tie.Need-read-natural-requires-2
-read-natural-requires-2 c κs = search needs
-
-enum-known-size : tie.Need-enum-known-size
-enum-known-size c = search needs
-
-enum-told-2 : tie.Need-enum-told-2
-enum-told-2 c = search needs
 
 -- after `-`: the text, what is read of the rest of it, and what that says of the whole
 abbrev text : tie.After-read-natural2 → List ℕ
@@ -81,9 +51,6 @@ returns-6 c =
     let d = c .before .before .before .before .before in
     sym (signed d ∙ negative-large (drop 1 (text d)) _ (sym (rest d) ∙ ap ofNatural (c .before .before .before .size .given .1)) (omega arith))
 
-sub-t13 : tie.Need-sub-t13
-sub-t13 c = search needs
-
 returns-7 : tie.Need-returns-7
 returns-7 c =
     let d = c .before .before .before .before .before in
@@ -92,22 +59,6 @@ returns-7 c =
 pub read-number-spec : {M : Type 1} → statement M
 read-number-spec =
     tie.close
-    (tie.spec
-    returns
-    shared-slice-read-if2
-    read-natural-requires
-    enum-known-n
-    enum-told
-    returns-2
-    returns-3
-    sub-read-natural
-    part-read-natural-start
-    part-read-natural-end
-    read-natural-requires-2
-    enum-known-size
-    enum-told-2
-    returns-4
-    returns-5
-    returns-6
-    sub-t13
-    returns-7)
+    (tie.spec returns (λ c. search needs) (λ c κs. search needs) (λ c. search needs) (λ c. search needs) returns-2 returns-3 (λ c. search needs)
+    (λ c. search needs) (λ c. search needs) (λ c κs. search needs) (λ c. search needs) (λ c. search needs) returns-4 returns-5 returns-6
+    (λ c. search needs) returns-7)

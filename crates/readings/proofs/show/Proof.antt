@@ -10,16 +10,7 @@ use Rattle.readings.proofs.show.Tie as tie
 pub show-spec : {M : Type 1} → statement M
 show-spec =
     tie.close
-    (tie.spec
-    (λ c κs. search needs)
-    (λ c. search needs)
-    (λ c κs. search needs)
-    (λ c κs. search needs)
-    (λ c. search needs)
-    (λ c κs. search needs)
-    (λ c κs. search needs)
-    (λ c. ends-inside (omega arith) (c .before .before .respond .ensures))
-    (λ c. sym (length-take-le _ _ (ends-inside (omega arith) (c .before .before .before .respond .ensures))))
-    (λ c κs. search needs)
-    (λ c. search needs)
-    (λ c. search needs))
+    (tie.spec (λ c κs. search needs) (λ c. search needs) (λ c κs. search needs) (λ c κs. search needs) (λ c. search needs) (λ c κs. search needs)
+    (λ c κs. search needs) (λ c. ends-inside (omega arith) (c .before .before .respond .ensures))
+    (λ c. sym (length-take-le _ _ (ends-inside (omega arith) (c .before .before .before .respond .ensures)))) (λ c κs. search needs)
+    (λ c. search needs) (λ c. search needs))

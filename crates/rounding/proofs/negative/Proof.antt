@@ -8,20 +8,11 @@ use Rattle.rounding.proofs.Rounds.{is-at-most}
 use Rattle.rounding.proofs.negative.Statement.{statement}
 use Rattle.rounding.proofs.negative.Tie as tie
 
-enum-known-size : tie.Need-enum-known-size
-enum-known-size c = search needs
-
 negated-requires : tie.Need-negated-requires
 negated-requires c κs = is-at-most _ _ _ (c .before .size .given .1) (c .before .before .before .pre)
-
-enum-told : tie.Need-enum-told
-enum-told c = search needs
 
 returns : tie.Need-returns
 returns c = ap given (toZ-ofZ (record { sfits = c .negated .ok }) ∙ c .negated .ensures) ∙ ap negativeSize (sym (c .before .before .size .given .1))
 
-returns-2 : tie.Need-returns-2
-returns-2 c = search needs
-
 pub negative-spec : {M : Type 1} → statement M
-negative-spec = tie.close (tie.spec enum-known-size negated-requires enum-told returns returns-2)
+negative-spec = tie.close (tie.spec (λ c. search needs) negated-requires (λ c. search needs) returns (λ c. search needs))

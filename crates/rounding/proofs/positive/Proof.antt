@@ -9,20 +9,11 @@ use Rattle.rounding.proofs.Rounds.{is-at-most}
 use Rattle.rounding.proofs.positive.Statement.{statement}
 use Rattle.rounding.proofs.positive.Tie as tie
 
-enum-known-size : tie.Need-enum-known-size
-enum-known-size c = search needs
-
-plus-requires : tie.Need-plus-requires
-plus-requires c κs = omega (arith, is-at-most (c .before .before .before .args .size) (c .before .size .given .0 .0) 9223372036854775807 (c .before .size .given .1) (c .before .before .before .pre))
-
-enum-told : tie.Need-enum-told
-enum-told c = search needs
+from-natural-requires : tie.Need-from-natural-requires
+from-natural-requires c κs = omega (arith, is-at-most (c .before .before .before .args .size) (c .before .size .given .0 .0) 9223372036854775807 (c .before .size .given .1) (c .before .before .before .pre))
 
 returns : tie.Need-returns
-returns c = ap given (toZ-ofZ (record { sfits = c .plus .ok }) ∙ c .plus .ensures) ∙ ap positiveSize (sym (c .before .before .size .given .1))
-
-returns-2 : tie.Need-returns-2
-returns-2 c = search needs
+returns c = ap given (toZ-ofZ (record { sfits = c .from-natural .ok }) ∙ c .from-natural .ensures) ∙ ap positiveSize (sym (c .before .before .size .given .1))
 
 pub positive-spec : {M : Type 1} → statement M
-positive-spec = tie.close (tie.spec enum-known-size plus-requires enum-told returns returns-2)
+positive-spec = tie.close (tie.spec (λ c. search needs) from-natural-requires (λ c. search needs) returns (λ c. search needs))

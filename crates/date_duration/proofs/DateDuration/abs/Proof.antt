@@ -11,9 +11,6 @@ use Rattle.date_duration.proofs.Durations.{turnable, part-is, same-part
 use Rattle.date_duration.proofs.DateDuration.abs.Statement.{statement}
 use Rattle.date_duration.proofs.DateDuration.abs.Tie as tie
 
-is-valid-requires : tie.Need-is-valid-requires
-is-valid-requires c κs = search needs
-
 returns : tie.Need-returns
 unfolding durationAbs
 returns c = rw (sym (c .before .is-valid .ensures) ∙ not-true _ (c .if1 .taken))
@@ -46,5 +43,4 @@ returns-2 c =
 
 pub abs-spec : {M : Type 1} → statement M
 abs-spec =
-    tie.close
-    (tie.spec is-valid-requires returns size-requires size-requires-2 size-requires-3 size-requires-4 returns-2)
+    tie.close (tie.spec (λ c κs. search needs) returns size-requires size-requires-2 size-requires-3 size-requires-4 returns-2)

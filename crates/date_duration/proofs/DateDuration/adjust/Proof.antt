@@ -9,20 +9,8 @@ use Rattle.date_duration.proofs.Durations.{adjust-refused, adjust-is}
 use Rattle.date_duration.proofs.DateDuration.adjust.Statement.{statement}
 use Rattle.date_duration.proofs.DateDuration.adjust.Tie as tie
 
-is-valid-requires : tie.Need-is-valid-requires
-is-valid-requires c κs = search needs
-
 returns : tie.Need-returns
 returns c = adjust-refused _ _ _ _ (sym (c .before .is-valid .ensures) ∙ not-true _ (c .if1 .taken))
-
-kept-or-requires : tie.Need-kept-or-requires
-kept-or-requires c κs = search needs
-
-kept-or-requires-2 : tie.Need-kept-or-requires-2
-kept-or-requires-2 c κs = search needs
-
-new-requires : tie.Need-new-requires
-new-requires c κs = search needs
 
 returns-2 : tie.Need-returns-2
 returns-2 c =
@@ -39,5 +27,4 @@ returns-2 c =
 
 pub adjust-spec : {M : Type 1} → statement M
 adjust-spec =
-    tie.close
-    (tie.spec is-valid-requires returns kept-or-requires kept-or-requires-2 new-requires returns-2)
+    tie.close (tie.spec (λ c κs. search needs) returns (λ c κs. search needs) (λ c κs. search needs) (λ c κs. search needs) returns-2)

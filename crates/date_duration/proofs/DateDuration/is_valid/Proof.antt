@@ -7,9 +7,6 @@ use mir.Val.{toZ, ofZ}
 use Rattle.date_duration.proofs.DateDuration.is_valid.Statement.{statement}
 use Rattle.date_duration.proofs.DateDuration.is_valid.Tie as tie
 
-are-valid-requires : tie.Need-are-valid-requires
-are-valid-requires c κs = search needs
-
 returns : tie.Need-returns
 returns c =
     let d = c .before .before .before .before .before .args .self in
@@ -20,4 +17,4 @@ returns c =
     rw (back-years, back-months, back-weeks, back-days) at (c .are-valid .ensures)
 
 pub is-valid-spec : {M : Type 1} → statement M
-is-valid-spec = tie.close (tie.spec are-valid-requires returns)
+is-valid-spec = tie.close (tie.spec (λ c κs. search needs) returns)

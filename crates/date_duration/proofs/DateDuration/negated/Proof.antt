@@ -11,9 +11,6 @@ use Rattle.date_duration.proofs.Durations.{turnable, part-is, same-part
 use Rattle.date_duration.proofs.DateDuration.negated.Statement.{statement}
 use Rattle.date_duration.proofs.DateDuration.negated.Tie as tie
 
-is-valid-requires : tie.Need-is-valid-requires
-is-valid-requires c κs = search needs
-
 returns : tie.Need-returns
 unfolding durationNegated
 returns c = rw (sym (c .before .is-valid .ensures) ∙ not-true _ (c .if1 .taken))
@@ -46,5 +43,4 @@ returns-2 c =
 
 pub negated-spec : {M : Type 1} → statement M
 negated-spec =
-    tie.close
-    (tie.spec is-valid-requires returns turned-requires turned-requires-2 turned-requires-3 turned-requires-4 returns-2)
+    tie.close (tie.spec (λ c κs. search needs) returns turned-requires turned-requires-2 turned-requires-3 turned-requires-4 returns-2)

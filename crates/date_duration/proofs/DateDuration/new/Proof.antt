@@ -7,9 +7,6 @@ use Rattle.date_duration.specs.Paper.{newDuration}
 use Rattle.date_duration.proofs.DateDuration.new.Statement.{statement}
 use Rattle.date_duration.proofs.DateDuration.new.Tie as tie
 
-are-valid-requires : tie.Need-are-valid-requires
-are-valid-requires c κs = search needs
-
 returns : tie.Need-returns
 unfolding newDuration
 returns c =
@@ -25,4 +22,4 @@ returns-2 c =
     rw (toZ-ofZ (s .fits .years), toZ-ofZ (s .fits .months), toZ-ofZ (s .fits .weeks), toZ-ofZ (s .fits .days), sym e ∙ not-false _ (c .if1 .left))
 
 pub new-spec : {M : Type 1} → statement M
-new-spec = tie.close (tie.spec are-valid-requires returns returns-2)
+new-spec = tie.close (tie.spec (λ c κs. search needs) returns returns-2)

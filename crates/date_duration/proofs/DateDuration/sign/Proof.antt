@@ -9,15 +9,9 @@ use Rattle.date_duration.specs.Paper.{durationSign}
 use Rattle.date_duration.proofs.DateDuration.sign.Statement.{statement}
 use Rattle.date_duration.proofs.DateDuration.sign.Tie as tie
 
-is-valid-requires : tie.Need-is-valid-requires
-is-valid-requires c κs = search needs
-
 returns : tie.Need-returns
 unfolding durationSign
 returns c = rw (sym (c .before .is-valid .ensures) ∙ not-true _ (c .if1 .taken))
-
-first-sign-requires : tie.Need-first-sign-requires
-first-sign-requires c κs = search needs
 
 returns-2 : tie.Need-returns-2
 unfolding durationSign
@@ -31,4 +25,4 @@ returns-2 c =
     rw (sym (c .before .before .before .before .before .before .is-valid .ensures) ∙ not-false _ (c .before .before .before .before .before .if1 .left), e)
 
 pub sign-spec : {M : Type 1} → statement M
-sign-spec = tie.close (tie.spec is-valid-requires returns first-sign-requires returns-2)
+sign-spec = tie.close (tie.spec (λ c κs. search needs) returns (λ c κs. search needs) returns-2)

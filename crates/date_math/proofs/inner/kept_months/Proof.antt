@@ -33,14 +33,4 @@ returns c = omega arith
 
 pub kept-months-spec : {M : Type 1} → statement M
 kept-months-spec =
-    tie.close
-    (tie.spec
-    Inv-loop
-    μ-loop
-    loop-holds
-    mul-if1
-    sub-result
-    add-candidate
-    loop-less
-    loop-again
-    returns)
+    tie.close (tie.spec Inv-loop μ-loop loop-holds mul-if1 sub-result add-candidate loop-less loop-again returns)

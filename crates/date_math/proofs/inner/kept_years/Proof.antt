@@ -37,15 +37,4 @@ returns c = omega arith
 
 pub kept-years-spec : {M : Type 1} → statement M
 kept-years-spec =
-    tie.close
-    (tie.spec
-    Inv-loop
-    μ-loop
-    sub-candidate
-    loop-holds
-    mul-if2
-    sub-result
-    add-candidate
-    loop-less
-    loop-again
-    returns)
+    tie.close (tie.spec Inv-loop μ-loop sub-candidate loop-holds mul-if2 sub-result add-candidate loop-less loop-again returns)

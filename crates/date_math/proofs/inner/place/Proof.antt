@@ -7,27 +7,6 @@ use Rattle.date_math.proofs.Steps.{place-is}
 use Rattle.date_math.proofs.inner.place.Statement.{statement}
 use Rattle.date_math.proofs.inner.place.Tie as tie
 
-year-up-requires : tie.Need-year-up-requires
-year-up-requires c κs = search needs
-
-mul-result : tie.Need-mul-result
-mul-result c = search needs
-
-cast-result : tie.Need-cast-result
-cast-result c = search needs
-
-mul-result-2 : tie.Need-mul-result-2
-mul-result-2 c = search needs
-
-add-result : tie.Need-add-result
-add-result c = search needs
-
-cast-result-2 : tie.Need-cast-result-2
-cast-result-2 c = search needs
-
-add-result-2 : tie.Need-add-result-2
-add-result-2 c = search needs
-
 returns : tie.Need-returns
 returns c =
     let b = c .before .before in
@@ -38,12 +17,5 @@ returns c =
 pub place-spec : {M : Type 1} → statement M
 place-spec =
     tie.close
-    (tie.spec
-    year-up-requires
-    mul-result
-    cast-result
-    mul-result-2
-    add-result
-    cast-result-2
-    add-result-2
-    returns)
+    (tie.spec (λ c κs. search needs) (λ c. search needs) (λ c. search needs) (λ c. search needs) (λ c. search needs) (λ c. search needs)
+    (λ c. search needs) returns)

@@ -11,35 +11,8 @@ use Rattle.date_math.proofs.Steps.{rest-start-is}
 use Rattle.date_math.proofs.inner.rest_start.Statement.{statement}
 use Rattle.date_math.proofs.inner.rest_start.Tie as tie
 
-year-up-requires : tie.Need-year-up-requires
-year-up-requires c κs = search needs
-
-mul-shifted : tie.Need-mul-shifted
-mul-shifted c = search needs
-
-cast-shifted : tie.Need-cast-shifted
-cast-shifted c = search needs
-
 sub-shifted : tie.Need-sub-shifted
 sub-shifted c = read-valid _ _ _ (c .before .before .before .pre .0) .month-low
-
-add-shifted : tie.Need-add-shifted
-add-shifted c = search needs
-
-shifted-requires : tie.Need-shifted-requires
-shifted-requires c κs = search needs
-
-is-leap-requires : tie.Need-is-leap-requires
-is-leap-requires c κs = search needs
-
-add-month-days : tie.Need-add-month-days
-add-month-days c = search needs
-
-cast-month-days : tie.Need-cast-month-days
-cast-month-days c = search needs
-
-month-days-requires : tie.Need-month-days-requires
-month-days-requires c κs = search needs
 
 month-start-requires : tie.Need-month-start-requires
 month-start-requires c κs = omega (arith, c .before .before .shifted .ensures .1)
@@ -48,12 +21,6 @@ clamp-to-requires : tie.Need-clamp-to-requires
 clamp-to-requires c κs =
     let k = c .before .before .before .shifted .result in
     rw (c .before .month-days .ensures .0) (length-least _ (k % 12 + 1 - 1) (omega arith))
-
-cast-result : tie.Need-cast-result
-cast-result c = search needs
-
-add-result : tie.Need-add-result
-add-result c = search needs
 
 returns : tie.Need-returns
 returns c =
@@ -72,19 +39,6 @@ returns c =
 pub rest-start-spec : {M : Type 1} → statement M
 rest-start-spec =
     tie.close
-    (tie.spec
-    year-up-requires
-    mul-shifted
-    cast-shifted
-    sub-shifted
-    add-shifted
-    shifted-requires
-    is-leap-requires
-    add-month-days
-    cast-month-days
-    month-days-requires
-    month-start-requires
-    clamp-to-requires
-    cast-result
-    add-result
-    returns)
+    (tie.spec (λ c κs. search needs) (λ c. search needs) (λ c. search needs) sub-shifted (λ c. search needs) (λ c κs. search needs)
+    (λ c κs. search needs) (λ c. search needs) (λ c. search needs) (λ c κs. search needs) month-start-requires clamp-to-requires (λ c. search needs)
+    (λ c. search needs) (λ c. search needs) returns)

@@ -6,9 +6,6 @@ use Rattle.iso_date.proofs.Answers.{limits-bad, limits-out, limits-with
 use Rattle.iso_date.proofs.IsoDate.check_within_limits.Statement.{statement}
 use Rattle.iso_date.proofs.IsoDate.check_within_limits.Tie as tie
 
-is-valid-requires : tie.Need-is-valid-requires
-is-valid-requires c κs = search needs
-
 returns : tie.Need-returns
 returns c = limits-bad _ (sym (c .before .is-valid .ensures) ∙ not-true _ (c .if1 .taken))
 
@@ -27,4 +24,4 @@ returns-3 c =
 
 pub check-within-limits-spec : {M : Type 1} → statement M
 check-within-limits-spec =
-    tie.close (tie.spec is-valid-requires returns within-limits-requires returns-2 returns-3)
+    tie.close (tie.spec (λ c κs. search needs) returns within-limits-requires returns-2 returns-3)

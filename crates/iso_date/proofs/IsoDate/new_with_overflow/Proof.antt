@@ -7,29 +7,11 @@ use Rattle.iso_date.proofs.Answers.{make-refused, make-out, make-within
 use Rattle.iso_date.proofs.IsoDate.new_with_overflow.Statement.{statement}
 use Rattle.iso_date.proofs.IsoDate.new_with_overflow.Tie as tie
 
-regulate-requires : tie.Need-regulate-requires
-regulate-requires c κs = search needs
-
-enum-known-regulated : tie.Need-enum-known-regulated
-enum-known-regulated c = search needs
-
-enum-told : tie.Need-enum-told
-enum-told c = search needs
-
 returns : tie.Need-returns
 returns c =
     let a = c .before .before in
     let is = ap ofDate (c .enum-told .given .1) in
     is ∙ make-refused _ _ _ (sym is ∙ (rw (toZ-ofZ (a .before .fits .year)) at (a .regulate .ensures)))
-
-check-within-limits-requires : tie.Need-check-within-limits-requires
-check-within-limits-requires c κs = search needs
-
-enum-told-2 : tie.Need-enum-told-2
-enum-told-2 c = search needs
-
-enum-told-3 : tie.Need-enum-told-3
-enum-told-3 c = search needs
 
 returns-2 : tie.Need-returns-2
 returns-2 c =
@@ -48,13 +30,5 @@ returns-3 c =
 pub new-with-overflow-spec : {M : Type 1} → statement M
 new-with-overflow-spec =
     tie.close
-    (tie.spec
-    regulate-requires
-    enum-known-regulated
-    enum-told
-    returns
-    check-within-limits-requires
-    enum-told-2
-    enum-told-3
-    returns-2
-    returns-3)
+    (tie.spec (λ c κs. search needs) (λ c. search needs) (λ c. search needs) returns (λ c κs. search needs) (λ c. search needs) (λ c. search needs)
+    returns-2 returns-3)

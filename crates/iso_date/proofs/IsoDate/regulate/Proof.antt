@@ -7,18 +7,6 @@ use Rattle.iso_date.proofs.Answers.{regulate-constrain, regulate-good, 
 use Rattle.iso_date.proofs.IsoDate.regulate.Statement.{statement}
 use Rattle.iso_date.proofs.IsoDate.regulate.Tie as tie
 
-enum-told : tie.Need-enum-told
-enum-told c = search needs
-
-constrain-requires : tie.Need-constrain-requires
-constrain-requires c κs = search needs
-
-enum-told-2 : tie.Need-enum-told-2
-enum-told-2 c = search needs
-
-is-valid-requires : tie.Need-is-valid-requires
-is-valid-requires c κs = search needs
-
 returns : tie.Need-returns
 returns c =
     let s = c .before .before .before in
@@ -37,12 +25,4 @@ returns-3 c =
 
 pub regulate-spec : {M : Type 1} → statement M
 regulate-spec =
-    tie.close
-    (tie.spec
-    enum-told
-    constrain-requires
-    enum-told-2
-    is-valid-requires
-    returns
-    returns-2
-    returns-3)
+    tie.close (tie.spec (λ c. search needs) (λ c κs. search needs) (λ c. search needs) (λ c κs. search needs) returns returns-2 returns-3)

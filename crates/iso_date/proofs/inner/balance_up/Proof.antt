@@ -4,17 +4,8 @@ use Rattle.iso_date.proofs.Answers.{balances}
 use Rattle.iso_date.proofs.inner.balance_up.Statement.{statement}
 use Rattle.iso_date.proofs.inner.balance_up.Tie as tie
 
-sub-k : tie.Need-sub-k
-sub-k c = search needs
-
-add-t5 : tie.Need-add-t5
-add-t5 c = search needs
-
-sub-t6 : tie.Need-sub-t6
-sub-t6 c = search needs
-
 returns : tie.Need-returns
 returns c = balances _ _ (c .pre .0 .0) (c .pre .0 .1) (c .pre .1 .0) (c .pre .1 .1)
 
 pub balance-up-spec : {M : Type 1} → statement M
-balance-up-spec = tie.close (tie.spec sub-k add-t5 sub-t6 returns)
+balance-up-spec = tie.close (tie.spec (λ c. search needs) (λ c. search needs) (λ c. search needs) returns)

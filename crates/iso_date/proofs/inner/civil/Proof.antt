@@ -9,18 +9,6 @@ use Rattle.iso_date.proofs.Dates.{civil-is}
 use Rattle.iso_date.proofs.inner.civil.Statement.{statement}
 use Rattle.iso_date.proofs.inner.civil.Tie as tie
 
-year-of-requires : tie.Need-year-of-requires
-year-of-requires c κs = search needs
-
-is-leap-requires : tie.Need-is-leap-requires
-is-leap-requires c κs = search needs
-
-year-start-requires : tie.Need-year-start-requires
-year-start-requires c κs = search needs
-
-sub-day : tie.Need-sub-day
-sub-day c = search needs
-
 month-of-requires : tie.Need-month-of-requires
 month-of-requires c κs = rw (c .year-start .ensures .0, c .before .is-leap .ensures) (in-biased-year _ _ (c .before .before .year-of .ensures))
 
@@ -28,21 +16,6 @@ lower32-requires : tie.Need-lower32-requires
 lower32-requires c κs =
     let b = c .before .before .before in
     (omega arith, year-range _ _ (b .year-of .ensures) (b .before .pre))
-
-add-t6 : tie.Need-add-t6
-add-t6 c = search needs
-
-cast-t8 : tie.Need-cast-t8
-cast-t8 c = search needs
-
-days-before-requires : tie.Need-days-before-requires
-days-before-requires c κs = search needs
-
-sub-t10 : tie.Need-sub-t10
-sub-t10 c = search needs
-
-add-t11 : tie.Need-add-t11
-add-t11 c = search needs
 
 cast-t12 : tie.Need-cast-t12
 cast-t12 c =
@@ -59,17 +32,5 @@ returns c =
 pub civil-spec : {M : Type 1} → statement M
 civil-spec =
     tie.close
-    (tie.spec
-    year-of-requires
-    is-leap-requires
-    year-start-requires
-    sub-day
-    month-of-requires
-    lower32-requires
-    add-t6
-    cast-t8
-    days-before-requires
-    sub-t10
-    add-t11
-    cast-t12
-    returns)
+    (tie.spec (λ c κs. search needs) (λ c κs. search needs) (λ c κs. search needs) (λ c. search needs) month-of-requires lower32-requires
+    (λ c. search needs) (λ c. search needs) (λ c κs. search needs) (λ c. search needs) (λ c. search needs) cast-t12 returns)

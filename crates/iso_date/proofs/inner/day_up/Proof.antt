@@ -9,12 +9,6 @@ use Rattle.iso_date.proofs.Dates.{read-valid}
 use Rattle.iso_date.proofs.inner.day_up.Statement.{statement}
 use Rattle.iso_date.proofs.inner.day_up.Tie as tie
 
-year-up-requires : tie.Need-year-up-requires
-year-up-requires c κs = search needs
-
-cast-month-start : tie.Need-cast-month-start
-cast-month-start c = search needs
-
 sub-month-start : tie.Need-sub-month-start
 sub-month-start c = read-valid _ _ _ (c .before .before .before .pre) .month-low
 
@@ -23,11 +17,8 @@ month-start-requires c κs =
     let v = read-valid _ _ _ (c .before .before .before .pre) in
     (omega (arith, c .before .year-up .ensures), omega (arith, v .month-high))
 
-cast-result : tie.Need-cast-result
-cast-result c = search needs
-
-add-result : tie.Need-add-result
-add-result c = search needs
+sub-result : tie.Need-sub-result
+sub-result c = let v = read-valid _ _ _ (c .before .before .before .before .before .pre) in omega (arith, v .day-low)
 
 returns : tie.Need-returns
 returns c =
@@ -43,11 +34,4 @@ returns c =
 pub day-up-spec : {M : Type 1} → statement M
 day-up-spec =
     tie.close
-    (tie.spec
-    year-up-requires
-    cast-month-start
-    sub-month-start
-    month-start-requires
-    cast-result
-    add-result
-    returns)
+    (tie.spec (λ c κs. search needs) (λ c. search needs) sub-month-start month-start-requires (λ c. search needs) (λ c. search needs) sub-result returns)

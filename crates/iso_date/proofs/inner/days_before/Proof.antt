@@ -5,12 +5,6 @@ use Rattle.iso_date.proofs.Tables.{before-early, before-late, before-sm
 use Rattle.iso_date.proofs.inner.days_before.Statement.{statement}
 use Rattle.iso_date.proofs.inner.days_before.Tie as tie
 
-mul-days : tie.Need-mul-days
-mul-days c = search needs
-
-array-read-days : tie.Need-array-read-days
-array-read-days c = search needs
-
 cast-result : tie.Need-cast-result
 cast-result c = omega (arith, before-small (c .before .args .i) (c .before .pre))
 
@@ -19,12 +13,6 @@ returns c = before-early _ _ (c .before .pre) (c .if1 .taken)
 
 cast-result-2 : tie.Need-cast-result-2
 cast-result-2 c = omega (arith, before-small (c .before .args .i) (c .before .pre))
-
-leap-day-requires : tie.Need-leap-day-requires
-leap-day-requires c κs = search needs
-
-cast-result-3 : tie.Need-cast-result-3
-cast-result-3 c = search needs
 
 add-result : tie.Need-add-result
 add-result c = omega (arith, before-small (c .before .before .args .i) (c .before .before .pre))
@@ -35,13 +23,5 @@ returns-2 c = before-late _ _ _ (c .leap-day .ensures .0) (c .before .before .pr
 pub days-before-spec : {M : Type 1} → statement M
 days-before-spec =
     tie.close
-    (tie.spec
-    mul-days
-    array-read-days
-    cast-result
-    returns
-    cast-result-2
-    leap-day-requires
-    cast-result-3
-    add-result
+    (tie.spec (λ c. search needs) (λ c. search needs) cast-result returns cast-result-2 (λ c κs. search needs) (λ c. search needs) add-result
     returns-2)

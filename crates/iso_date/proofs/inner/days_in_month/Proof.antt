@@ -6,15 +6,6 @@ use Rattle.iso_date.proofs.Answers.{length-of-year}
 use Rattle.iso_date.proofs.inner.days_in_month.Statement.{statement}
 use Rattle.iso_date.proofs.inner.days_in_month.Tie as tie
 
-year-up-requires : tie.Need-year-up-requires
-year-up-requires c κs = search needs
-
-is-leap-requires : tie.Need-is-leap-requires
-is-leap-requires c κs = search needs
-
-month-days-requires : tie.Need-month-days-requires
-month-days-requires c κs = search needs
-
 returns : tie.Need-returns
 returns c =
     let s = c .before .before .before in
@@ -23,4 +14,4 @@ returns c =
 
 pub days-in-month-spec : {M : Type 1} → statement M
 days-in-month-spec =
-    tie.close (tie.spec year-up-requires is-leap-requires month-days-requires returns)
+    tie.close (tie.spec (λ c κs. search needs) (λ c κs. search needs) (λ c κs. search needs) returns)

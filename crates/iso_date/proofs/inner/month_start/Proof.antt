@@ -5,18 +5,6 @@ use Rattle.iso_date.proofs.Years.{month-biased}
 use Rattle.iso_date.proofs.inner.month_start.Statement.{statement}
 use Rattle.iso_date.proofs.inner.month_start.Tie as tie
 
-is-leap-requires : tie.Need-is-leap-requires
-is-leap-requires c κs = search needs
-
-year-start-requires : tie.Need-year-start-requires
-year-start-requires c κs = search needs
-
-days-before-requires : tie.Need-days-before-requires
-days-before-requires c κs = search needs
-
-add-result : tie.Need-add-result
-add-result c = search needs
-
 returns : tie.Need-returns
 returns c =
     let b = c .days-before .ensures in
@@ -26,5 +14,4 @@ returns c =
 
 pub month-start-spec : {M : Type 1} → statement M
 month-start-spec =
-    tie.close
-    (tie.spec is-leap-requires year-start-requires days-before-requires add-result returns)
+    tie.close (tie.spec (λ c κs. search needs) (λ c κs. search needs) (λ c κs. search needs) (λ c. search needs) returns)

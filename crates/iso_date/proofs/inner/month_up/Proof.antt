@@ -4,11 +4,8 @@ use mir.Facts.{toZ-ofZ}
 use Rattle.iso_date.proofs.inner.month_up.Statement.{statement}
 use Rattle.iso_date.proofs.inner.month_up.Tie as tie
 
-raise32-requires : tie.Need-raise32-requires
-raise32-requires c κs = search needs
-
 returns : tie.Need-returns
 returns c = rw (toZ-ofZ (c .before .fits .month)) at (c .raise32 .ensures)
 
 pub month-up-spec : {M : Type 1} → statement M
-month-up-spec = tie.close (tie.spec raise32-requires returns)
+month-up-spec = tie.close (tie.spec (λ c κs. search needs) returns)

@@ -12,20 +12,10 @@ use Rattle.iso_date.proofs.Answers.{limits-low, limits-decide}
 use Rattle.iso_date.proofs.inner.within_limits.Statement.{statement}
 use Rattle.iso_date.proofs.inner.within_limits.Tie as tie
 
-epoch-days-requires : tie.Need-epoch-days-requires
-epoch-days-requires c κs = search needs
-
 returns : tie.Need-returns
 returns c =
-    let r = c .before .epoch-days in
-    let f : SFits w64 (r .result) = record { sfits = r .ok } in
-    sym (limits-low (r .result) noon (omega arith) (omega (arith, ints))) ∙ ap (λ (z : ℤ). momentWithinLimits z noon) (r .ensures)
-
-returns-2 : tie.Need-returns-2
-returns-2 c =
-    let r = c .before .epoch-days in
-    let f : SFits w64 (r .result) = record { sfits = r .ok } in
-    rw (toZ-ofZ f) (limits-decide (r .result) (omega (arith, ints)) ∙ ap (λ (z : ℤ). momentWithinLimits z noon) (r .ensures))
+    let r = c .epoch-days in
+    rw (toZ-ofZ (record { sfits = r .ok })) (limits-decide (r .result) ∙ ap (λ (z : ℤ). momentWithinLimits z noon) (r .ensures .0))
 
 pub within-limits-spec : {M : Type 1} → statement M
-within-limits-spec = tie.close (tie.spec epoch-days-requires returns returns-2)
+within-limits-spec = tie.close (tie.spec (λ c κs. search needs) returns)

@@ -9,22 +9,13 @@ use Rattle.iso_date.specs.Inner.{yearBias}
 use Rattle.iso_date.proofs.inner.year_down.Statement.{statement}
 use Rattle.iso_date.proofs.inner.year_down.Tie as tie
 
-sub-if1 : tie.Need-sub-if1
-sub-if1 c = search needs
-
 returns : tie.Need-returns
 returns c = clamp-low _ _ _ (omega (arith, ints, read-diff (c .before .args .u) yearBias))
-
-add-if2 : tie.Need-add-if2
-add-if2 c = search needs
 
 returns-2 : tie.Need-returns-2
 returns-2 c =
     let d = read-diff (c .before .before .args .u) yearBias in
     clamp-high _ _ _ (omega (arith, ints)) (omega (arith, ints))
-
-lower32-requires : tie.Need-lower32-requires
-lower32-requires c κs = search needs
 
 returns-3 : tie.Need-returns-3
 returns-3 c =
@@ -32,4 +23,4 @@ returns-3 c =
     toZ-ofZ (record { sfits = c .lower32 .ok }) ∙ c .lower32 .ensures ∙ clamp-same _ _ _ (omega (arith, ints)) (omega (arith, ints))
 
 pub year-down-spec : {M : Type 1} → statement M
-year-down-spec = tie.close (tie.spec sub-if1 returns add-if2 returns-2 lower32-requires returns-3)
+year-down-spec = tie.close (tie.spec (λ c. search needs) returns (λ c. search needs) returns-2 (λ c κs. search needs) returns-3)

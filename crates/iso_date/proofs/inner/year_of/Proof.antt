@@ -4,18 +4,6 @@ use Rattle.iso_date.proofs.Years.{year-exact, year-late}
 use Rattle.iso_date.proofs.inner.year_of.Statement.{statement}
 use Rattle.iso_date.proofs.inner.year_of.Tie as tie
 
-mul-e : tie.Need-mul-e
-mul-e c = search needs
-
-add-e : tie.Need-add-e
-add-e c = search needs
-
-year-start-requires : tie.Need-year-start-requires
-year-start-requires c κs = search needs
-
-sub-result : tie.Need-sub-result
-sub-result c = search needs
-
 returns : tie.Need-returns
 returns c = year-late _ (c .before .before .pre .1) (c .before .before .pre .0) (rw (c .before .year-start .ensures .0) at (c .if1 .taken))
 
@@ -23,4 +11,4 @@ returns-2 : tie.Need-returns-2
 returns-2 c = year-exact _ (c .before .before .pre .1) (c .before .before .pre .0) (rw (c .before .year-start .ensures .0) at (c .if1 .left))
 
 pub year-of-spec : {M : Type 1} → statement M
-year-of-spec = tie.close (tie.spec mul-e add-e year-start-requires sub-result returns returns-2)
+year-of-spec = tie.close (tie.spec (λ c. search needs) (λ c. search needs) (λ c κs. search needs) (λ c. search needs) returns returns-2)

@@ -4,11 +4,8 @@ use mir.Facts.{toZ-ofZ}
 use Rattle.iso_date.proofs.inner.year_up.Statement.{statement}
 use Rattle.iso_date.proofs.inner.year_up.Tie as tie
 
-raise32-requires : tie.Need-raise32-requires
-raise32-requires c κs = search needs
-
 returns : tie.Need-returns
 returns c = rw (toZ-ofZ (c .before .fits .year)) at (c .raise32 .ensures)
 
 pub year-up-spec : {M : Type 1} → statement M
-year-up-spec = tie.close (tie.spec raise32-requires returns)
+year-up-spec = tie.close (tie.spec (λ c κs. search needs) returns)

@@ -13,15 +13,6 @@ use Rattle.iso_date_time.proofs.Moments.{balance-bound, balance-count, 
 use Rattle.iso_date_time.proofs.IsoDateTime.balance.Statement.{statement}
 use Rattle.iso_date_time.proofs.IsoDateTime.balance.Tie as tie
 
-balance-requires : tie.Need-balance-requires
-balance-requires c κs = search needs
-
-enum-known-balanced : tie.Need-enum-known-balanced
-enum-known-balanced c = search needs
-
-enum-told : tie.Need-enum-told
-enum-told c = search needs
-
 returns : tie.Need-returns
 returns c =
     let f = c .before .before .before .fits in
@@ -36,12 +27,6 @@ balance-sum-requires c κs =
     let days : toZ w64 (ofZ w64 (b .days)) ≡ b .days = search needs in
     let is = sym (ap ofBalance (c .before .before .balanced .given .1)) ∙ t in
     rw days (carry-small _ _ _ _ _ _ _ is)
-
-enum-known-date : tie.Need-enum-known-date
-enum-known-date c = search needs
-
-enum-told-2 : tie.Need-enum-told-2
-enum-told-2 c = search needs
 
 returns-2 : tie.Need-returns-2
 returns-2 c =
@@ -72,13 +57,5 @@ returns-3 c = given-is c
 pub balance-spec : {M : Type 1} → statement M
 balance-spec =
     tie.close
-    (tie.spec
-    balance-requires
-    enum-known-balanced
-    enum-told
-    returns
-    balance-sum-requires
-    enum-known-date
-    enum-told-2
-    returns-2
-    returns-3)
+    (tie.spec (λ c κs. search needs) (λ c. search needs) (λ c. search needs) returns balance-sum-requires (λ c. search needs) (λ c. search needs)
+    returns-2 returns-3)

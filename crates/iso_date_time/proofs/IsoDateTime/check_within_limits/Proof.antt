@@ -6,14 +6,8 @@ use Rattle.iso_date_time.proofs.Moments.{limits-date, limits-time, limi
 use Rattle.iso_date_time.proofs.IsoDateTime.check_within_limits.Statement.{statement}
 use Rattle.iso_date_time.proofs.IsoDateTime.check_within_limits.Tie as tie
 
-is-valid-requires : tie.Need-is-valid-requires
-is-valid-requires c κs = search needs
-
 returns : tie.Need-returns
 returns c = limits-date _ (sym (c .before .is-valid .ensures) ∙ not-true _ (c .if1 .taken))
-
-is-valid-requires-2 : tie.Need-is-valid-requires-2
-is-valid-requires-2 c κs = search needs
 
 returns-2 : tie.Need-returns-2
 returns-2 c =
@@ -41,12 +35,4 @@ returns-4 c =
 
 pub check-within-limits-spec : {M : Type 1} → statement M
 check-within-limits-spec =
-    tie.close
-    (tie.spec
-    is-valid-requires
-    returns
-    is-valid-requires-2
-    returns-2
-    within-limits-requires
-    returns-3
-    returns-4)
+    tie.close (tie.spec (λ c κs. search needs) returns (λ c κs. search needs) returns-2 within-limits-requires returns-3 returns-4)

@@ -7,17 +7,11 @@ use Rattle.iso_date_time.proofs.Instants.{no-instant, no-offset, instan
 use Rattle.iso_date_time.proofs.IsoDateTime.from_epoch_nanos.Statement.{statement}
 use Rattle.iso_date_time.proofs.IsoDateTime.from_epoch_nanos.Tie as tie
 
-is-instant-requires : tie.Need-is-instant-requires
-is-instant-requires c κs = search needs
-
 returns : tie.Need-returns
 returns c =
     let s = c .before .before in
     let e = rw (toZ-ofZ (s .fits .day), toZ-ofZ (s .fits .nanosecond)) at (c .before .is-instant .ensures) in
     no-instant _ _ _ (sym e ∙ not-true _ (c .if1 .taken))
-
-is-offset-requires : tie.Need-is-offset-requires
-is-offset-requires c κs = search needs
 
 returns-2 : tie.Need-returns-2
 returns-2 c =
@@ -44,11 +38,4 @@ returns-3 c =
 
 pub from-epoch-nanos-spec : {M : Type 1} → statement M
 from-epoch-nanos-spec =
-    tie.close
-    (tie.spec
-    is-instant-requires
-    returns
-    is-offset-requires
-    returns-2
-    from-instant-requires
-    returns-3)
+    tie.close (tie.spec (λ c κs. search needs) returns (λ c κs. search needs) returns-2 from-instant-requires returns-3)

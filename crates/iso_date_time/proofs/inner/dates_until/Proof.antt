@@ -1,25 +1,19 @@
--- The bias of `civil` is one less, so the day before, by that bias, is the same date.
+-- The date of a day number is valid, and is the one that the definition names.
 use borrow.Author.Needs.{needs}
-use native.Mathlib.Omega.{arith}
-use mathlib.Core.Path.{_∙_}
-use Rattle.iso_date_time.proofs.Turns.{day-valid, until-day}
+use mathlib.Core.Path.{_∙_, ap}
+use Rattle.iso_date.specs.declared.IsoDate.{IsoDate}
+use Rattle.iso_date.proofs.Dates.{back-valid}
+use Rattle.date_math.specs.Proposal.{calendarDateUntil}
 use Rattle.iso_date_time.proofs.inner.dates_until.Statement.{statement}
 use Rattle.iso_date_time.proofs.inner.dates_until.Tie as tie
 
-sub-civil : tie.Need-sub-civil
-sub-civil c = search needs
-
-civil-requires : tie.Need-civil-requires
-civil-requires c κs = search needs
-
 difference-requires : tie.Need-difference-requires
-difference-requires c κs = let s = c .before in (s .pre .0, day-valid (s .args .day) _ (c .civil .ensures))
+difference-requires c κs = (c .before .pre .0, rw (c .civil .ensures) (back-valid _))
 
 returns : tie.Need-returns
 returns c =
-    let s = c .before .before in
-    c .difference .ensures ∙
-    until-day (s .args .day) _ (c .before .civil .ensures) (s .args .one) (s .args .unit) (omega (arith, s .pre .1 .0))
+    let s = c .before .before .args in
+    c .difference .ensures ∙ ap (λ (d : IsoDate). calendarDateUntil (s .one) d (s .unit)) (c .before .civil .ensures)
 
 pub dates-until-spec : {M : Type 1} → statement M
-dates-until-spec = tie.close (tie.spec sub-civil civil-requires difference-requires returns)
+dates-until-spec = tie.close (tie.spec (λ c κs. search needs) difference-requires returns)

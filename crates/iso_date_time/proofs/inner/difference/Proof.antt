@@ -1,5 +1,4 @@
--- The turn tells the day that the second date is moved to and the time that is then left, both of one direction; below the day the days
--- join the time.
+-- The second date is moved to a day, and the time is what is then left, both of one direction; below the day the days join the time.
 use borrow.Author.Needs.{needs}
 use mathlib.Core.Path.{sym}
 use Rattle.iso_date_time.proofs.Moments.{limits-fine}
@@ -19,65 +18,42 @@ day-up-requires-2 c κs = let s = c .before .before .before .before .before .bef
 nanoseconds-of-requires-2 : tie.Need-nanoseconds-of-requires-2
 nanoseconds-of-requires-2 c κs = let s = c .before .before .before .before .before .before .before in limits-fine _ (sym (s .pre .1)) .time-valid
 
-turned-requires : tie.Need-turned-requires
-turned-requires c κs = search needs
-
-rank-requires : tie.Need-rank-requires
-rank-requires c κs = search needs
-
-at-turn : (c : tie.After-turned) →
+at-day : (c : tie.After-adjusted) →
     Placed (c .before .before .before .before .before .before .before .before .before .args .one)
     (c .before .before .before .before .before .before .before .before .before .args .two)
-    (c .before .before .before .before .day-up .result) (c .turned .result .day) (c .turned .result .forward) (c .turned .result .nanoseconds)
-at-turn c =
+    (c .before .before .before .before .day-up .result) (c .adjusted .result .day) (c .adjusted .result .forward) (c .adjusted .result .nanoseconds)
+at-day c =
     let u = c .before .before .before .before in
     let s = u .before .before .before .before .before in
     placed _ _ (limits-fine _ (sym (s .pre .0))) (limits-fine _ (sym (s .pre .1))) _ _ _ _ _ _ _ (u .day-up .ensures .0) (c .before .before .day-up2 .ensures .0)
-    (c .before .before .before .nanoseconds-of .ensures .0) (c .before .nanoseconds-of2 .ensures .0) (c .turned .ensures)
-
-distance-requires : tie.Need-distance-requires
-distance-requires c κs = search needs
+    (c .before .before .before .nanoseconds-of .ensures .0) (c .before .nanoseconds-of2 .ensures .0) (c .adjusted .ensures)
 
 in-seconds-requires : tie.Need-in-seconds-requires
-in-seconds-requires c κs = let t = c .before .before .before in (rw (c .distance .ensures) (at-turn t .near), t .turned .ensures .small)
+in-seconds-requires c κs = let t = c .before .before .before in (rw (c .abs-diff .ensures) (at-day t .near), t .adjusted .ensures .small)
 
 returns : tie.Need-returns
 returns c =
     let t = c .before .before .before .before in
     let s = t .before .before .before .before .before .before .before .before .before in
-    time-alone _ _ (s .args .unit) _ _ _ _ _ (at-turn t) (c .before .before .before .rank .ensures) (limits-fine _ (sym (s .pre .0)) .date-valid) _ _
-    (c .before .before .if1 .taken) (c .before .distance .ensures) (c .in-seconds .ensures)
+    time-alone _ _ (s .args .unit) _ _ _ _ _ (at-day t) (c .before .before .before .rank .ensures) (limits-fine _ (sym (s .pre .0)) .date-valid) _ _
+    (c .before .before .if1 .taken) (c .before .abs-diff .ensures) (c .in-seconds .ensures)
 
 dates-until-requires : tie.Need-dates-until-requires
 dates-until-requires c κs =
     let t = c .before .before in
     let s = t .before .before .before .before .before .before .before .before .before in
-    let a = at-turn t in
+    let a = at-day t in
     (limits-fine _ (sym (s .pre .0)) .date-valid, (a .day-low, a .day-high))
-
-in-seconds-requires-2 : tie.Need-in-seconds-requires-2
-in-seconds-requires-2 c κs = search needs
 
 returns-2 : tie.Need-returns-2
 returns-2 c =
     let t = c .before .before .before .before in
     let s = t .before .before .before .before .before .before .before .before .before in
-    dates-and-time _ _ (s .args .unit) _ _ _ _ _ (at-turn t) (c .before .before .before .rank .ensures) _ _ (c .before .before .if1 .left)
+    dates-and-time _ _ (s .args .unit) _ _ _ _ _ (at-day t) (c .before .before .before .rank .ensures) _ _ (c .before .before .if1 .left)
     (c .before .dates-until .ensures) (c .in-seconds2 .ensures)
 
 pub difference-spec : {M : Type 1} → statement M
 difference-spec =
     tie.close
-    (tie.spec
-    day-up-requires
-    nanoseconds-of-requires
-    day-up-requires-2
-    nanoseconds-of-requires-2
-    turned-requires
-    rank-requires
-    distance-requires
-    in-seconds-requires
-    returns
-    dates-until-requires
-    in-seconds-requires-2
-    returns-2)
+    (tie.spec day-up-requires nanoseconds-of-requires day-up-requires-2 nanoseconds-of-requires-2 (λ c κs. search needs) (λ c κs. search needs)
+    (λ c κs. search needs) in-seconds-requires returns dates-until-requires (λ c κs. search needs) returns-2)

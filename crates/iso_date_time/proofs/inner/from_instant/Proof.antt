@@ -10,32 +10,26 @@ use Rattle.iso_date_time.proofs.Instants.{read-instant, offset-room, da
 use Rattle.iso_date_time.proofs.inner.from_instant.Statement.{statement}
 use Rattle.iso_date_time.proofs.inner.from_instant.Tie as tie
 
-above-requires : tie.Need-above-requires
-above-requires c κs = rw (toZ-ofZ (c .fits .nanosecond)) (read-instant _ _ (c .pre .0) .ns-low)
+to-natural-requires : tie.Need-to-natural-requires
+to-natural-requires c κs = rw (toZ-ofZ (c .fits .nanosecond)) (read-instant _ _ (c .pre .0) .ns-low)
 
 raise-requires : tie.Need-raise-requires
 raise-requires c κs = rw (toZ-ofZ (c .before .fits .offset)) (offset-room _ (c .before .pre .1))
-
-add-n : tie.Need-add-n
-add-n c = search needs
 
 raise-requires-2 : tie.Need-raise-requires-2
 raise-requires-2 c κs =
     let s = c .before .before in
     rw (toZ-ofZ (s .fits .day)) (day-room _ _ (read-instant _ _ (s .pre .0)))
 
-add-d : tie.Need-add-d
-add-d c = search needs
-
 -- the three numbers as they were raised
 raised : (c : tie.After-raise2) →
     (c .before .before .before .args .day ≡ c .raise2 .result ⊖ dayBias) ×
-    ((c .before .before .before .args .nanosecond ≡ pos (c .before .before .above .result)) ×
+    ((c .before .before .before .args .nanosecond ≡ pos (c .before .before .to-natural .result)) ×
     (c .before .before .before .args .offset ≡ c .before .raise .result ⊖ nsPerDay))
 raised c =
     let f = c .before .before .before .fits in (
       sym (toZ-ofZ (f .day)) ∙ c .raise2 .ensures .0,
-      (sym (toZ-ofZ (f .nanosecond)) ∙ c .before .before .above .ensures .0, sym (toZ-ofZ (f .offset)) ∙ c .before .raise .ensures .0),
+      (sym (toZ-ofZ (f .nanosecond)) ∙ c .before .before .to-natural .ensures .0, sym (toZ-ofZ (f .offset)) ∙ c .before .raise .ensures .0),
     )
 
 sub-d : tie.Need-sub-d
@@ -50,9 +44,6 @@ civil-requires c κs =
     let e = raised c in
     sum-bounds _ _ _ _ _ _ (p .0) (p .1) (e .0) (e .1 .0) (e .1 .1) .1
 
-time-at-requires : tie.Need-time-at-requires
-time-at-requires c κs = search needs
-
 returns : tie.Need-returns
 returns c =
     let r = c .before .before in
@@ -63,13 +54,5 @@ returns c =
 pub from-instant-spec : {M : Type 1} → statement M
 from-instant-spec =
     tie.close
-    (tie.spec
-    above-requires
-    raise-requires
-    add-n
-    raise-requires-2
-    add-d
-    sub-d
-    civil-requires
-    time-at-requires
+    (tie.spec to-natural-requires raise-requires (λ c. search needs) raise-requires-2 (λ c. search needs) sub-d civil-requires (λ c κs. search needs)
     returns)

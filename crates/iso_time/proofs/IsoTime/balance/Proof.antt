@@ -8,9 +8,6 @@ use Rattle.iso_time.proofs.Checks.{all-within}
 use Rattle.iso_time.proofs.IsoTime.balance.Statement.{statement}
 use Rattle.iso_time.proofs.IsoTime.balance.Tie as tie
 
-are-bounded-requires : tie.Need-are-bounded-requires
-are-bounded-requires c κs = search needs
-
 returns : tie.Need-returns
 unfolding balanceTimeFields
 returns c =
@@ -33,4 +30,4 @@ returns-2 c =
     rw (sym e ∙ not-false _ (c .before .if1 .left), f)
 
 pub balance-spec : {M : Type 1} → statement M
-balance-spec = tie.close (tie.spec are-bounded-requires returns balance-requires returns-2)
+balance-spec = tie.close (tie.spec (λ c κs. search needs) returns balance-requires returns-2)

@@ -7,15 +7,9 @@ use Rattle.iso_time.proofs.Checks.{difference-is}
 use Rattle.iso_time.proofs.IsoTime.diff.Statement.{statement}
 use Rattle.iso_time.proofs.IsoTime.diff.Tie as tie
 
-is-valid-requires : tie.Need-is-valid-requires
-is-valid-requires c κs = search needs
-
 returns : tie.Need-returns
 unfolding timeDifference
 returns c = rw (sym (c .before .is-valid .ensures) ∙ not-true _ (c .if1 .taken))
-
-is-valid-requires-2 : tie.Need-is-valid-requires-2
-is-valid-requires-2 c κs = search needs
 
 returns-2 : tie.Need-returns-2
 unfolding timeDifference
@@ -27,9 +21,6 @@ nanoseconds-of-requires c κs = sym (c .before .before .before .is-valid .ensure
 nanoseconds-of-requires-2 : tie.Need-nanoseconds-of-requires-2
 nanoseconds-of-requires-2 c κs = sym (c .before .before .is-valid2 .ensures) ∙ not-false _ (c .before .if2 .left)
 
-span-requires : tie.Need-span-requires
-span-requires c κs = search needs
-
 returns-3 : tie.Need-returns-3
 returns-3 c =
     let d = c .before .before .before in
@@ -40,12 +31,5 @@ returns-3 c =
 pub diff-spec : {M : Type 1} → statement M
 diff-spec =
     tie.close
-    (tie.spec
-    is-valid-requires
-    returns
-    is-valid-requires-2
-    returns-2
-    nanoseconds-of-requires
-    nanoseconds-of-requires-2
-    span-requires
+    (tie.spec (λ c κs. search needs) returns (λ c κs. search needs) returns-2 nanoseconds-of-requires nanoseconds-of-requires-2 (λ c κs. search needs)
     returns-3)

@@ -5,18 +5,6 @@ use Rattle.iso_time.specs.Paper.{regulateTime}
 use Rattle.iso_time.proofs.IsoTime.new.Statement.{statement}
 use Rattle.iso_time.proofs.IsoTime.new.Tie as tie
 
-enum-told : tie.Need-enum-told
-enum-told c = search needs
-
-constrain-requires : tie.Need-constrain-requires
-constrain-requires c κs = search needs
-
-enum-told-2 : tie.Need-enum-told-2
-enum-told-2 c = search needs
-
-is-valid-requires : tie.Need-is-valid-requires
-is-valid-requires c κs = search needs
-
 returns : tie.Need-returns
 unfolding regulateTime
 returns c = rw (c .before .enum-told .given .1, c .constrain .ensures)
@@ -31,12 +19,4 @@ returns-3 c = rw (c .before .before .enum-told2 .given .1, sym (c .before .is-va
 
 pub new-spec : {M : Type 1} → statement M
 new-spec =
-    tie.close
-    (tie.spec
-    enum-told
-    constrain-requires
-    enum-told-2
-    is-valid-requires
-    returns
-    returns-2
-    returns-3)
+    tie.close (tie.spec (λ c. search needs) (λ c κs. search needs) (λ c. search needs) (λ c κs. search needs) returns returns-2 returns-3)

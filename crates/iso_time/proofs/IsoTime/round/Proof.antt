@@ -7,15 +7,9 @@ use Rattle.iso_time.proofs.Checks.{no-unit, some-unit, length-some}
 use Rattle.iso_time.proofs.IsoTime.round.Statement.{statement}
 use Rattle.iso_time.proofs.IsoTime.round.Tie as tie
 
-is-valid-requires : tie.Need-is-valid-requires
-is-valid-requires c κs = search needs
-
 returns : tie.Need-returns
 unfolding roundedTime
 returns c = rw (sym (c .before .is-valid .ensures) ∙ not-true _ (c .if1 .taken))
-
-length-of-requires : tie.Need-length-of-requires
-length-of-requires c κs = search needs
 
 returns-2 : tie.Need-returns-2
 unfolding roundedTime
@@ -52,13 +46,4 @@ returns-4 c =
 
 pub round-spec : {M : Type 1} → statement M
 round-spec =
-    tie.close
-    (tie.spec
-    is-valid-requires
-    returns
-    length-of-requires
-    returns-2
-    is-increment-requires
-    returns-3
-    round-requires
-    returns-4)
+    tie.close (tie.spec (λ c κs. search needs) returns (λ c κs. search needs) returns-2 is-increment-requires returns-3 round-requires returns-4)

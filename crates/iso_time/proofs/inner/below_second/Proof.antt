@@ -5,27 +5,6 @@ use Rattle.iso_time.proofs.Times.{read-valid}
 use Rattle.iso_time.proofs.inner.below_second.Statement.{statement}
 use Rattle.iso_time.proofs.inner.below_second.Tie as tie
 
-cast-result : tie.Need-cast-result
-cast-result c = search needs
-
-mul-result : tie.Need-mul-result
-mul-result c = search needs
-
-cast-result-2 : tie.Need-cast-result-2
-cast-result-2 c = search needs
-
-add-result : tie.Need-add-result
-add-result c = search needs
-
-mul-result-2 : tie.Need-mul-result-2
-mul-result-2 c = search needs
-
-cast-result-3 : tie.Need-cast-result-3
-cast-result-3 c = search needs
-
-add-result-2 : tie.Need-add-result-2
-add-result-2 c = search needs
-
 returns : tie.Need-returns
 returns c =
     let s = c .before .before .before in
@@ -35,12 +14,5 @@ returns c =
 pub below-second-spec : {M : Type 1} → statement M
 below-second-spec =
     tie.close
-    (tie.spec
-    cast-result
-    mul-result
-    cast-result-2
-    add-result
-    mul-result-2
-    cast-result-3
-    add-result-2
-    returns)
+    (tie.spec (λ c. search needs) (λ c. search needs) (λ c. search needs) (λ c. search needs) (λ c. search needs) (λ c. search needs)
+    (λ c. search needs) returns)

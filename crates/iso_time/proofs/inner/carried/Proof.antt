@@ -6,17 +6,11 @@ use lib.IntN.{pos}
 use Rattle.iso_time.proofs.inner.carried.Statement.{statement}
 use Rattle.iso_time.proofs.inner.carried.Tie as tie
 
-time-at-requires : tie.Need-time-at-requires
-time-at-requires c κs = search needs
-
 returns : tie.Need-returns
 returns c = record { exactly = ap pos (omega (arith, c .time-at .ensures .0)); valid = c .time-at .ensures .1 }
-
-time-at-requires-2 : tie.Need-time-at-requires-2
-time-at-requires-2 c κs = search needs
 
 returns-2 : tie.Need-returns-2
 returns-2 c = record { exactly = ap pos (omega (arith, c .time-at2 .ensures .0)); valid = c .time-at2 .ensures .1 }
 
 pub carried-spec : {M : Type 1} → statement M
-carried-spec = tie.close (tie.spec time-at-requires returns time-at-requires-2 returns-2)
+carried-spec = tie.close (tie.spec (λ c κs. search needs) returns (λ c κs. search needs) returns-2)

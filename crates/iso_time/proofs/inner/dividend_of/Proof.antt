@@ -4,15 +4,6 @@ use Rattle.iso_time.proofs.Checks.{rank-small, dividend-at}
 use Rattle.iso_time.proofs.inner.dividend_of.Statement.{statement}
 use Rattle.iso_time.proofs.inner.dividend_of.Tie as tie
 
-rank-requires : tie.Need-rank-requires
-rank-requires c κs = search needs
-
-cast-place : tie.Need-cast-place
-cast-place c = search needs
-
-mul-result : tie.Need-mul-result
-mul-result c = search needs
-
 array-read-result : tie.Need-array-read-result
 array-read-result c = rw (c .rank .ensures) (rank-small (c .before .args .unit))
 
@@ -20,4 +11,4 @@ returns : tie.Need-returns
 returns c = rw (c .rank .ensures) (dividend-at (c .before .args .unit))
 
 pub dividend-of-spec : {M : Type 1} → statement M
-dividend-of-spec = tie.close (tie.spec rank-requires cast-place mul-result array-read-result returns)
+dividend-of-spec = tie.close (tie.spec (λ c κs. search needs) (λ c. search needs) (λ c. search needs) array-read-result returns)

@@ -4,9 +4,6 @@ use Rattle.iso_time.proofs.Checks.{day-increment, no-increment, large-i
 use Rattle.iso_time.proofs.inner.is_increment.Statement.{statement}
 use Rattle.iso_time.proofs.inner.is_increment.Tie as tie
 
-dividend-of-requires : tie.Need-dividend-of-requires
-dividend-of-requires c κs = search needs
-
 returns : tie.Need-returns
 returns c = day-increment _ _ _ (c .before .dividend-of .ensures) (c .before .before .pre) (c .if1 .taken)
 
@@ -16,12 +13,9 @@ returns-2 c = no-increment _ _ _ (c .before .before .dividend-of .ensures) (c .b
 returns-3 : tie.Need-returns-3
 returns-3 c = large-increment _ _ _ (c .before .before .before .dividend-of .ensures) (c .before .before .before .before .pre) (c .before .before .if1 .left) (c .before .if2 .left) (c .if3 .taken)
 
-rem-result : tie.Need-rem-result
-rem-result c = search needs
-
 returns-4 : tie.Need-returns-4
 returns-4 c = small-increment _ _ _ (c .before .before .before .dividend-of .ensures) (c .before .before .before .before .pre) (c .before .before .if1 .left) (c .before .if2 .left) (c .if3 .left)
 
 pub is-increment-spec : {M : Type 1} → statement M
 is-increment-spec =
-    tie.close (tie.spec dividend-of-requires returns returns-2 returns-3 rem-result returns-4)
+    tie.close (tie.spec (λ c κs. search needs) returns returns-2 returns-3 (λ c. search needs) returns-4)

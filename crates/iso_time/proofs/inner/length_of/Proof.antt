@@ -4,15 +4,6 @@ use Rattle.iso_time.proofs.Checks.{rank-small, length-at, length-most}
 use Rattle.iso_time.proofs.inner.length_of.Statement.{statement}
 use Rattle.iso_time.proofs.inner.length_of.Tie as tie
 
-rank-requires : tie.Need-rank-requires
-rank-requires c κs = search needs
-
-cast-place : tie.Need-cast-place
-cast-place c = search needs
-
-mul-result : tie.Need-mul-result
-mul-result c = search needs
-
 array-read-result : tie.Need-array-read-result
 array-read-result c = rw (c .rank .ensures) (rank-small (c .before .args .unit))
 
@@ -22,4 +13,4 @@ returns c =
     rw (c .rank .ensures) (length-at u, rw (length-at u) (length-most u))
 
 pub length-of-spec : {M : Type 1} → statement M
-length-of-spec = tie.close (tie.spec rank-requires cast-place mul-result array-read-result returns)
+length-of-spec = tie.close (tie.spec (λ c κs. search needs) (λ c. search needs) (λ c. search needs) array-read-result returns)

@@ -6,15 +6,6 @@ use Rattle.iso_time.proofs.Rounding.{allowed, step-some, quantity-le, b
 use Rattle.iso_time.proofs.inner.round.Statement.{statement}
 use Rattle.iso_time.proofs.inner.round.Tie as tie
 
-quantity-of-requires : tie.Need-quantity-of-requires
-quantity-of-requires c κs = search needs
-
-get-unsigned-round-mode-requires : tie.Need-get-unsigned-round-mode-requires
-get-unsigned-round-mode-requires c κs = search needs
-
-length-of-requires : tie.Need-length-of-requires
-length-of-requires c κs = search needs
-
 mul-round-small : tie.Need-mul-round-small
 mul-round-small c =
     let s = c .before .before .before in
@@ -28,9 +19,6 @@ round-small-requires c κs =
     let b = below-day (s .args .t) (read-valid (s .args .t) (s .pre .0)) in
     rw (c .length-of .ensures .0, c .before .before .quantity-of .ensures)
     (step-some (s .args .unit) (s .args .increment) (s .pre .1 .0) (s .pre .1 .1), omega (arith, a .1, b, quantity-le (s .args .unit) (s .args .t)))
-
-nanoseconds-of-requires : tie.Need-nanoseconds-of-requires
-nanoseconds-of-requires c κs = search needs
 
 sub-carried : tie.Need-sub-carried
 sub-carried c = rw (c .before .before .before .before .quantity-of .ensures, c .nanoseconds-of .ensures .0) (quantity-le _ _)
@@ -64,14 +52,5 @@ returns c =
 pub round-spec : {M : Type 1} → statement M
 round-spec =
     tie.close
-    (tie.spec
-    quantity-of-requires
-    get-unsigned-round-mode-requires
-    length-of-requires
-    mul-round-small
-    round-small-requires
-    nanoseconds-of-requires
-    sub-carried
-    add-carried
-    carried-requires
-    returns)
+    (tie.spec (λ c κs. search needs) (λ c κs. search needs) (λ c κs. search needs) mul-round-small round-small-requires (λ c κs. search needs)
+    sub-carried add-carried carried-requires returns)

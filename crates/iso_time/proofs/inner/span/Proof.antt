@@ -6,25 +6,10 @@ use Rattle.iso_time.proofs.Checks.{span-forward, span-back}
 use Rattle.iso_time.proofs.inner.span.Statement.{statement}
 use Rattle.iso_time.proofs.inner.span.Tie as tie
 
-plus-requires : tie.Need-plus-requires
-plus-requires c κs = search needs
-
-plus-requires-2 : tie.Need-plus-requires-2
-plus-requires-2 c κs = search needs
-
 returns : tie.Need-returns
 returns c =
-    span-forward _ _ _ _ (c .before .before .if1 .taken) (toZ-ofZ (record { sfits = c .before .plus .ok }) ∙ c .before .plus .ensures)
-    (toZ-ofZ (record { sfits = c .plus2 .ok }) ∙ c .plus2 .ensures)
-
-sub-n : tie.Need-sub-n
-sub-n c = search needs
-
-negated-requires : tie.Need-negated-requires
-negated-requires c κs = search needs
-
-negated-requires-2 : tie.Need-negated-requires-2
-negated-requires-2 c κs = search needs
+    span-forward _ _ _ _ (c .before .before .if1 .taken) (toZ-ofZ (record { sfits = c .before .from-natural .ok }) ∙ c .before .from-natural .ensures)
+    (toZ-ofZ (record { sfits = c .from-natural2 .ok }) ∙ c .from-natural2 .ensures)
 
 returns-2 : tie.Need-returns-2
 returns-2 c =
@@ -34,11 +19,4 @@ returns-2 c =
 pub span-spec : {M : Type 1} → statement M
 span-spec =
     tie.close
-    (tie.spec
-    plus-requires
-    plus-requires-2
-    returns
-    sub-n
-    negated-requires
-    negated-requires-2
-    returns-2)
+    (tie.spec (λ c κs. search needs) (λ c κs. search needs) returns (λ c. search needs) (λ c κs. search needs) (λ c κs. search needs) returns-2)

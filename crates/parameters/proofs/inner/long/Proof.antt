@@ -26,21 +26,21 @@ cell c = getD (c .before .before .args .n .cells) (c .before .before .args .i) (
 there : (c : tie.After-c) → at (numbersIn (c .before .before .args .n)) (c .before .before .args .i) ≡ cond (cell c .negative) (negsuc (cell c .size)) (pos (cell c .size))
 there c = let s = c .before .before in cell-there (s .args .n) (s .args .i) _ (inside (signed 64) [] (s .args .n) (s .args .i) (s .pre))
 
-minus-requires : tie.Need-minus-requires
-minus-requires c κs =
+from-depth-requires : tie.Need-from-depth-requires
+from-depth-requires c κs =
     let s = c .before .before .before in
     size-below _ _ _ (there (c .before)) (c .if1 .taken) (in-kind (signed 64) [] (s .args .n) (s .args .i) (s .pre) .0)
 
 returns : tie.Need-returns
-returns c = toZ-ofZ {w = w64} {z = c .minus .result} (record { sfits = c .minus .ok }) ∙ below-is _ _ _ (there (c .before .before)) _ (c .before .if1 .taken) (c .minus .ensures)
+returns c = toZ-ofZ {w = w64} {z = c .from-depth .result} (record { sfits = c .from-depth .ok }) ∙ below-is _ _ _ (there (c .before .before)) _ (c .before .if1 .taken) (c .from-depth .ensures)
 
-plus-requires : tie.Need-plus-requires
-plus-requires c κs =
+from-natural-requires : tie.Need-from-natural-requires
+from-natural-requires c κs =
     let s = c .before .before .before in
     size-above _ _ _ (there (c .before)) (c .if1 .left) (in-kind (signed 64) [] (s .args .n) (s .args .i) (s .pre) .1)
 
 returns-2 : tie.Need-returns-2
-returns-2 c = toZ-ofZ {w = w64} {z = c .plus .result} (record { sfits = c .plus .ok }) ∙ above-is _ _ _ (there (c .before .before)) _ (c .before .if1 .left) (c .plus .ensures)
+returns-2 c = toZ-ofZ {w = w64} {z = c .from-natural .result} (record { sfits = c .from-natural .ok }) ∙ above-is _ _ _ (there (c .before .before)) _ (c .before .if1 .left) (c .from-natural .ensures)
 
 pub long-spec : {M : Type 1} → statement M
-long-spec = tie.close (tie.spec mul-c array-copy-out-c minus-requires returns plus-requires returns-2)
+long-spec = tie.close (tie.spec mul-c array-copy-out-c from-depth-requires returns from-natural-requires returns-2)

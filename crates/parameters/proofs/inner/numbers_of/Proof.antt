@@ -106,28 +106,9 @@ returns-4 c =
 pub numbers-of-spec : {M : Type 1} → statement M
 numbers-of-spec =
     tie.close
-    (tie.spec
-    Inv-loop
-    μ-loop
-    loop-holds
-    (λ c κs. search needs)
-    returns
-    (λ c. search needs)
-    (λ c κs. search needs)
-    (λ c. search needs)
-    (λ c. search needs)
-    (λ c. omega (arith, ends c))
-    (λ c. search needs)
-    (λ c κs. search needs)
-    (λ c κs. search needs)
-    (λ c κs. search needs)
-    returns-2
-    (λ c κs. search needs)
+    (tie.spec Inv-loop μ-loop loop-holds (λ c κs. search needs) returns (λ c. search needs) (λ c κs. search needs) (λ c. search needs)
+    (λ c. search needs) (λ c. omega (arith, ends c)) (λ c. search needs) (λ c κs. search needs) (λ c κs. search needs) (λ c κs. search needs)
+    returns-2 (λ c κs. search needs)
     (λ c. omega (arith, small (at-loop (c .before .before .before .before .before .before)) (c .before .before .before .before .before .before .before .before .loop-test .taken)))
     (λ c. omega (arith, small (at-loop (c .before .before .before .before .before .before)) (c .before .before .before .before .before .before .before .before .loop-test .taken)))
-    (λ c. search needs)
-    (λ c. search needs)
-    loop-again
-    (λ c κs. search needs)
-    returns-3
-    returns-4)
+    (λ c. search needs) (λ c. search needs) loop-again (λ c κs. search needs) returns-3 returns-4)

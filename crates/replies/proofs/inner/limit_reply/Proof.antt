@@ -19,12 +19,5 @@ returns-2 c = rw (c .before .before .before .before .before .r .given .1) (c .be
 pub limit-reply-spec : {M : Type 1} → statement M
 limit-reply-spec =
     tie.close
-    (tie.spec
-    (λ c. search needs)
-    (λ c κs. search needs)
-    (λ c. search needs)
-    (λ c κs. search needs)
-    (λ c. search needs)
-    returns
-    (λ c. search needs)
+    (tie.spec (λ c. search needs) (λ c κs. search needs) (λ c. search needs) (λ c κs. search needs) (λ c. search needs) returns (λ c. search needs)
     returns-2)

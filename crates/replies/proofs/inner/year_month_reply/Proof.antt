@@ -32,11 +32,4 @@ returns c =
 pub year-month-reply-spec : {M : Type 1} → statement M
 year-month-reply-spec =
     tie.close
-    (tie.spec
-    (λ c κs. search needs)
-    cast-put-integer
-    (λ c κs. search needs)
-    (λ c. search needs)
-    (λ c κs. search needs)
-    (λ c. search needs)
-    returns)
+    (tie.spec (λ c κs. search needs) cast-put-integer (λ c κs. search needs) (λ c. search needs) (λ c κs. search needs) (λ c. search needs) returns)

@@ -25,12 +25,5 @@ returns c =
 pub numbers-at-spec : {M : Type 1} → statement M
 numbers-at-spec =
     tie.close
-    (tie.spec
-    (λ c. search needs)
-    (λ c. search needs)
-    (λ c κs. search needs)
-    (λ c. search needs)
-    (λ c. search needs)
-    inside
-    numbers-of-requires
+    (tie.spec (λ c. search needs) (λ c. search needs) (λ c κs. search needs) (λ c. search needs) (λ c. search needs) inside numbers-of-requires
     returns)

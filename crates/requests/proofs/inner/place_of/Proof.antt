@@ -49,15 +49,5 @@ returns-3 c = omega (arith, place-past calls (c .before .loop .place) (c .before
 pub place-of-spec : {M : Type 1} → statement M
 place-of-spec =
     tie.close
-    (tie.spec
-    Inv-loop
-    μ-loop
-    returns
-    (λ c. (omega arith, omega arith))
-    (λ c. omega arith)
-    stands-at-requires
-    returns-2
-    (λ c. omega arith)
-    (λ c. omega arith)
-    loop-again
-    returns-3)
+    (tie.spec Inv-loop μ-loop returns (λ c. (omega arith, omega arith)) (λ c. omega arith) stands-at-requires returns-2 (λ c. omega arith)
+    (λ c. omega arith) loop-again returns-3)

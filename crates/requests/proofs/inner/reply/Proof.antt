@@ -101,21 +101,6 @@ returns-5 c =
 pub reply-spec : {M : Type 1} → statement M
 reply-spec =
     tie.close
-    (tie.spec
-    returns
-    (λ c κs. search needs)
-    (λ c. search needs)
-    returns-2
-    (λ c κs. search needs)
-    slice-aggregate-place-of
-    place-of-requires
-    (λ c κs. search needs)
-    (λ c. search needs)
-    returns-3
-    numbers-at-requires
-    (λ c κs. search needs)
-    (λ c. search needs)
-    returns-4
-    answer-requires
-    (λ c. search needs)
-    returns-5)
+    (tie.spec returns (λ c κs. search needs) (λ c. search needs) returns-2 (λ c κs. search needs) slice-aggregate-place-of place-of-requires
+    (λ c κs. search needs) (λ c. search needs) returns-3 numbers-at-requires (λ c κs. search needs) (λ c. search needs) returns-4 answer-requires
+    (λ c. search needs) returns-5)

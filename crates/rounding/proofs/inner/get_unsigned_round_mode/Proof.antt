@@ -5,12 +5,6 @@ use Rattle.rounding.proofs.Rounds.{row-small, column-small, cell}
 use Rattle.rounding.proofs.inner.get_unsigned_round_mode.Statement.{statement}
 use Rattle.rounding.proofs.inner.get_unsigned_round_mode.Tie as tie
 
-row-requires : tie.Need-row-requires
-row-requires c κs = search needs
-
-column-requires : tie.Need-column-requires
-column-requires c κs = search needs
-
 mul-result : tie.Need-mul-result
 mul-result c = omega (arith, c .before .row .ensures, row-small (c .before .before .args .mode))
 
@@ -27,5 +21,4 @@ returns c =
 
 pub get-unsigned-round-mode-spec : {M : Type 1} → statement M
 get-unsigned-round-mode-spec =
-    tie.close
-    (tie.spec row-requires column-requires mul-result index-1-result index-2-result returns)
+    tie.close (tie.spec (λ c κs. search needs) (λ c κs. search needs) mul-result index-1-result index-2-result returns)

@@ -11,16 +11,10 @@ returns c =
     let a = c .before .args in
     not-up (a .lower) (a .step) (a .most) (a .up) (not-true _ (c .if1 .taken)) (c .before .pre)
 
-sub-if2 : tie.Need-sub-if2
-sub-if2 c = search needs
-
 returns-2 : tie.Need-returns-2
 returns-2 c =
     let a = c .before .before .args in
     past-up (a .lower) (a .step) (a .most) (a .up) (not-false _ (c .before .if1 .left)) (omega arith)
-
-add-t6 : tie.Need-add-t6
-add-t6 c = search needs
 
 returns-3 : tie.Need-returns-3
 returns-3 c =
@@ -28,4 +22,4 @@ returns-3 c =
     went-up (a .lower) (a .step) (a .most) (a .up) (not-false _ (c .before .if1 .left)) (omega arith)
 
 pub multiple-spec : {M : Type 1} → statement M
-multiple-spec = tie.close (tie.spec returns sub-if2 returns-2 add-t6 returns-3)
+multiple-spec = tie.close (tie.spec returns (λ c. search needs) returns-2 (λ c. search needs) returns-3)

@@ -6,9 +6,6 @@ use Rattle.rounding.proofs.Rounds.{lower-le, left-lt, size-chosen}
 use Rattle.rounding.proofs.inner.round_size.Statement.{statement}
 use Rattle.rounding.proofs.inner.round_size.Tie as tie
 
-div-q : tie.Need-div-q
-div-q c = search needs
-
 mul-lower : tie.Need-mul-lower
 mul-lower c = omega (arith, lower-le (c .args .size) (c .args .step) (c .pre .0))
 
@@ -18,9 +15,6 @@ sub-left c = lower-le _ _ (c .pre .0)
 sub-takes-up : tie.Need-sub-takes-up
 sub-takes-up c = omega (arith, left-lt (c .args .size) (c .args .step) (c .pre .0))
 
-takes-up-requires : tie.Need-takes-up-requires
-takes-up-requires c κs = search needs
-
 multiple-requires : tie.Need-multiple-requires
 multiple-requires c κs = omega (arith, lower-le (c .before .args .size) (c .before .args .step) (c .before .pre .0))
 
@@ -29,5 +23,4 @@ returns c = c .multiple .ensures ∙ size-chosen _ _ _ _ _ (c .before .takes-up 
 
 pub round-size-spec : {M : Type 1} → statement M
 round-size-spec =
-    tie.close
-    (tie.spec div-q mul-lower sub-left sub-takes-up takes-up-requires multiple-requires returns)
+    tie.close (tie.spec (λ c. search needs) mul-lower sub-left sub-takes-up (λ c κs. search needs) multiple-requires returns)

@@ -6,9 +6,6 @@ use Rattle.rounding.proofs.Rounds.{lower-le, left-lt, below-chosen-exac
 use Rattle.rounding.proofs.inner.round_size_below.Statement.{statement}
 use Rattle.rounding.proofs.inner.round_size_below.Tie as tie
 
-div-q : tie.Need-div-q
-div-q c = search needs
-
 mul-nearer-zero : tie.Need-mul-nearer-zero
 mul-nearer-zero c = omega (arith, lower-le (c .args .size) (c .args .step) (c .pre .0))
 
@@ -21,9 +18,6 @@ returns c = below-chosen-exact _ _ _ _ (c .if1 .taken) (c .before .pre .1)
 sub-takes-up : tie.Need-sub-takes-up
 sub-takes-up c = omega (arith, left-lt (c .before .args .size) (c .before .args .step) (c .before .pre .0))
 
-takes-up-requires : tie.Need-takes-up-requires
-takes-up-requires c κs = search needs
-
 multiple-requires : tie.Need-multiple-requires
 multiple-requires c κs = omega (arith, lower-le (c .before .before .args .size) (c .before .before .args .step) (c .before .before .pre .0))
 
@@ -32,13 +26,4 @@ returns-2 c = c .multiple .ensures ∙ below-chosen _ _ _ _ _ (c .before .before
 
 pub round-size-below-spec : {M : Type 1} → statement M
 round-size-below-spec =
-    tie.close
-    (tie.spec
-    div-q
-    mul-nearer-zero
-    sub-left
-    returns
-    sub-takes-up
-    takes-up-requires
-    multiple-requires
-    returns-2)
+    tie.close (tie.spec (λ c. search needs) mul-nearer-zero sub-left returns sub-takes-up (λ c κs. search needs) multiple-requires returns-2)

@@ -5,9 +5,6 @@ use Rattle.rounding.proofs.Rounds.{lower-le, left-lt, small-up, small-d
 use Rattle.rounding.proofs.inner.round_small.Statement.{statement}
 use Rattle.rounding.proofs.inner.round_small.Tie as tie
 
-div-q : tie.Need-div-q
-div-q c = search needs
-
 mul-lower : tie.Need-mul-lower
 mul-lower c = omega (arith, lower-le (c .args .size) (c .args .step) (c .pre .0))
 
@@ -16,9 +13,6 @@ sub-left c = lower-le _ _ (c .pre .0)
 
 sub-takes-up : tie.Need-sub-takes-up
 sub-takes-up c = omega (arith, left-lt (c .args .size) (c .args .step) (c .pre .0))
-
-takes-up-requires : tie.Need-takes-up-requires
-takes-up-requires c κs = search needs
 
 add-result : tie.Need-add-result
 add-result c = omega (arith, lower-le (c .before .before .args .size) (c .before .before .args .step) (c .before .before .pre .0))
@@ -35,5 +29,4 @@ returns-2 c =
 
 pub round-small-spec : {M : Type 1} → statement M
 round-small-spec =
-    tie.close
-    (tie.spec div-q mul-lower sub-left sub-takes-up takes-up-requires add-result returns returns-2)
+    tie.close (tie.spec (λ c. search needs) mul-lower sub-left sub-takes-up (λ c κs. search needs) add-result returns returns-2)

@@ -8,24 +8,6 @@ use Rattle.rounding.proofs.inner.takes_up.Tie as tie
 returns : tie.Need-returns
 returns c = sym (takes-none _ _ _ _ (c .if1 .taken))
 
-enum-told : tie.Need-enum-told
-enum-told c = search needs
-
-enum-told-2 : tie.Need-enum-told-2
-enum-told-2 c = search needs
-
-enum-told-3 : tie.Need-enum-told-3
-enum-told-3 c = search needs
-
-enum-told-4 : tie.Need-enum-told-4
-enum-told-4 c = search needs
-
-enum-told-5 : tie.Need-enum-told-5
-enum-told-5 c = search needs
-
-past-half-or-odd-requires : tie.Need-past-half-or-odd-requires
-past-half-or-odd-requires c κs = search needs
-
 returns-2 : tie.Need-returns-2
 returns-2 c = takes-rule _ _ _ _ _ (c .enum-told .given .1) (c .before .before .if1 .left)
 
@@ -44,16 +26,5 @@ returns-6 c = c .past-half-or-odd .ensures ∙ takes-rule _ _ _ _ _ (c .before .
 pub takes-up-spec : {M : Type 1} → statement M
 takes-up-spec =
     tie.close
-    (tie.spec
-    returns
-    enum-told
-    enum-told-2
-    enum-told-3
-    enum-told-4
-    enum-told-5
-    past-half-or-odd-requires
-    returns-2
-    returns-3
-    returns-4
-    returns-5
-    returns-6)
+    (tie.spec returns (λ c. search needs) (λ c. search needs) (λ c. search needs) (λ c. search needs) (λ c. search needs) (λ c κs. search needs)
+    returns-2 returns-3 returns-4 returns-5 returns-6)

@@ -22,12 +22,4 @@ returns-3 c =
 
 pub end-input-spec : {M : Type 1} → statement M
 end-input-spec =
-    tie.close
-    (tie.spec
-    (λ c κs. search needs)
-    (λ c. search needs)
-    returns
-    returns-2
-    (λ c κs. search needs)
-    (λ c. search needs)
-    returns-3)
+    tie.close (tie.spec (λ c κs. search needs) (λ c. search needs) returns returns-2 (λ c κs. search needs) (λ c. search needs) returns-3)

@@ -6,12 +6,6 @@ use Rattle.whole.proofs.Edges.{lowered-is, lowered-fits}
 use Rattle.whole.proofs.inner.lower.Statement.{statement}
 use Rattle.whole.proofs.inner.lower.Tie as tie
 
-cast-result : tie.Need-cast-result
-cast-result c = search needs
-
-cast-result-2 : tie.Need-cast-result-2
-cast-result-2 c = search needs
-
 sub-result : tie.Need-sub-result
 sub-result c = rw (toZ-pos w64 (c .pre .0), toZ-pos w64 (c .pre .1)) (lowered-fits _ _ (c .pre .0) (c .pre .1))
 
@@ -19,4 +13,4 @@ returns : tie.Need-returns
 returns c = rw (toZ-ofZ (sub-result c), toZ-pos w64 (c .pre .0), toZ-pos w64 (c .pre .1)) (lowered-is _ _)
 
 pub lower-spec : {M : Type 1} → statement M
-lower-spec = tie.close (tie.spec cast-result cast-result-2 sub-result returns)
+lower-spec = tie.close (tie.spec (λ c. search needs) (λ c. search needs) sub-result returns)

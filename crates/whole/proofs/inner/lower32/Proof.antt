@@ -8,12 +8,6 @@ use native.Mathlib.Omega.{arith}
 use Rattle.whole.proofs.inner.lower32.Statement.{statement}
 use Rattle.whole.proofs.inner.lower32.Tie as tie
 
-cast-result : tie.Need-cast-result
-cast-result c = search needs
-
-cast-result-2 : tie.Need-cast-result-2
-cast-result-2 c = search needs
-
 sub-result : tie.Need-sub-result
 sub-result c =
     let u : c .args .u < 2 ^ 63 = omega arith in
@@ -33,4 +27,4 @@ returns c =
     rw (toZ-ofZ (cast-result-3 c), toZ-ofZ (sub-result c), toZ-pos w64 u, toZ-pos w64 k) (lowered-is _ _)
 
 pub lower32-spec : {M : Type 1} → statement M
-lower32-spec = tie.close (tie.spec cast-result cast-result-2 sub-result cast-result-3 returns)
+lower32-spec = tie.close (tie.spec (λ c. search needs) (λ c. search needs) sub-result cast-result-3 returns)

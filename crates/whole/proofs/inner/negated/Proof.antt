@@ -11,14 +11,8 @@ use Rattle.whole.proofs.inner.negated.Tie as tie
 returns : tie.Need-returns
 returns c = ap (λ (n : ℕ). negℤ (pos n)) (sym (c .if1 .taken))
 
-sub-minus : tie.Need-sub-minus
-sub-minus c = search needs
-
-minus-requires : tie.Need-minus-requires
-minus-requires c κs = search needs
-
 returns-2 : tie.Need-returns-2
-returns-2 c = toZ-ofZ (record { sfits = c .minus .ok }) ∙ c .minus .ensures ∙ negated-is _ (c .before .if1 .left)
+returns-2 c = toZ-ofZ (record { sfits = c .from-depth .ok }) ∙ c .from-depth .ensures ∙ negated-is _ (c .before .if1 .left)
 
 pub negated-spec : {M : Type 1} → statement M
-negated-spec = tie.close (tie.spec returns sub-minus minus-requires returns-2)
+negated-spec = tie.close (tie.spec returns (λ c. search needs) (λ c κs. search needs) returns-2)

@@ -7,9 +7,6 @@ use Rattle.whole.proofs.Edges.{raised-low, raised-is, raised-fits, rais
 use Rattle.whole.proofs.inner.raise.Statement.{statement}
 use Rattle.whole.proofs.inner.raise.Tie as tie
 
-cast-result : tie.Need-cast-result
-cast-result c = search needs
-
 add-result : tie.Need-add-result
 add-result c = rw (toZ-ofZ (c .fits .x), toZ-pos w64 (c .pre .0)) (raised-fits _ _ (c .pre .1 .0) (c .pre .1 .1))
 
@@ -24,4 +21,4 @@ returns c =
     rw (toZ-ofZ (add-result c), toZ-ofZ (c .fits .x), toZ-pos w64 (c .pre .0)) (raised-is _ _ low, raised-top _ _ low (2 ^ 63) (c .pre .1 .1))
 
 pub raise-spec : {M : Type 1} → statement M
-raise-spec = tie.close (tie.spec cast-result add-result cast-result-2 returns)
+raise-spec = tie.close (tie.spec (λ c. search needs) add-result cast-result-2 returns)

@@ -11,9 +11,6 @@ use Rattle.whole.proofs.inner.raise32.Tie as tie
 cast-result : tie.Need-cast-result
 cast-result c = rw (toZ-ofZ (c .fits .y)) (sfits-widen tt (c .fits .y))
 
-cast-result-2 : tie.Need-cast-result-2
-cast-result-2 c = search needs
-
 add-result : tie.Need-add-result
 add-result c =
     let f = c .fits .y in
@@ -36,4 +33,4 @@ returns c =
     (raised-is _ _ low, (raised-top _ _ low _ (high32 _ _ f), raised32-low _ _ _ f (raised-is _ _ low)))
 
 pub raise32-spec : {M : Type 1} → statement M
-raise32-spec = tie.close (tie.spec cast-result cast-result-2 add-result cast-result-3 returns)
+raise32-spec = tie.close (tie.spec cast-result (λ c. search needs) add-result cast-result-3 returns)

@@ -6,9 +6,4 @@ use Rattle.writing.proofs.inner.put_byte.Tie as tie
 
 pub put-byte-spec : {M : Type 1} → statement M
 put-byte-spec =
-    tie.close
-    (tie.spec
-    (λ c. search needs)
-    (λ c. search needs)
-    (λ c. search needs)
-    (λ c. put-one _ _ _ (c .pre)))
+    tie.close (tie.spec (λ c. search needs) (λ c. search needs) (λ c. search needs) (λ c. put-one _ _ _ (c .pre)))

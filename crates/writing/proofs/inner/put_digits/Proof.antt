@@ -76,21 +76,5 @@ returns c =
 pub put-digits-spec : {M : Type 1} → statement M
 put-digits-spec =
     tie.close
-    (tie.spec
-    Inv-loop
-    μ-loop
-    digit-count-requires
-    add-end
-    sub-i
-    loop-holds
-    cast-out
-    add-out
-    slice-write-out
-    sub-i-2
-    loop-less
-    loop-again
-    cast-out-2
-    add-out-2
-    slice-write-out-2
-    same-length
-    returns)
+    (tie.spec Inv-loop μ-loop digit-count-requires add-end sub-i loop-holds cast-out add-out slice-write-out sub-i-2 loop-less loop-again cast-out-2
+    add-out-2 slice-write-out-2 same-length returns)

@@ -12,7 +12,7 @@ use Rattle.writing.proofs.inner.put_integer.Statement.{statement}
 use Rattle.writing.proofs.inner.put_integer.Tie as tie
 
 put-digits-requires : tie.Need-put-digits-requires
-put-digits-requires c κs = omega (arith, few-digits 20 18 (c .below .result + 1) (omega arith))
+put-digits-requires c κs = omega (arith, few-digits 20 18 (c .to-depth .result + 1) (omega arith))
 
 returns : tie.Need-returns
 returns c =
@@ -20,37 +20,27 @@ returns c =
     let sign = d .before .before .before .before .before in
     let gap = sign .before .before .before .before .before in
     let z = toZ-ofZ (gap .before .before .before .fits .z) in (
-      rw (decimal-minus _ _ (sym z ∙ d .before .below .ensures .0)) (after (gap .put-byte .ensures) (after (sign .put-byte2 .ensures) (d .put-digits .ensures))),
-      omega (arith, d .put-digits .ensures .ends, few-digits 20 18 (d .before .below .result + 1) (omega arith)),
+      rw (decimal-minus _ _ (sym z ∙ d .before .to-depth .ensures .0)) (after (gap .put-byte .ensures) (after (sign .put-byte2 .ensures) (d .put-digits .ensures))),
+      omega (arith, d .put-digits .ensures .ends, few-digits 20 18 (d .before .to-depth .result + 1) (omega arith)),
     )
 
-above-requires : tie.Need-above-requires
-above-requires c κs = omega (arith, ints)
+to-natural-requires : tie.Need-to-natural-requires
+to-natural-requires c κs = omega (arith, ints)
 
 put-digits-requires-2 : tie.Need-put-digits-requires-2
-put-digits-requires-2 c κs = omega (arith, few-digits 20 19 (c .above .result) (omega arith))
+put-digits-requires-2 c κs = omega (arith, few-digits 20 19 (c .to-natural .result) (omega arith))
 
 returns-2 : tie.Need-returns-2
 returns-2 c =
     let d = c .before .before in
     let gap = d .before .before .before .before .before .before in
     let z = toZ-ofZ (gap .before .before .before .fits .z) in (
-      rw (decimal-plus _ _ (sym z ∙ d .before .above .ensures .0)) (after (gap .put-byte .ensures) (d .put-digits2 .ensures)),
-      omega (arith, d .put-digits2 .ensures .ends, few-digits 20 19 (d .before .above .result) (omega arith)),
+      rw (decimal-plus _ _ (sym z ∙ d .before .to-natural .ensures .0)) (after (gap .put-byte .ensures) (d .put-digits2 .ensures)),
+      omega (arith, d .put-digits2 .ensures .ends, few-digits 20 19 (d .before .to-natural .result) (omega arith)),
     )
 
 pub put-integer-spec : {M : Type 1} → statement M
 put-integer-spec =
     tie.close
-    (tie.spec
-    (λ c κs. search needs)
-    (λ c κs. search needs)
-    (λ c κs. search needs)
-    (λ c. search needs)
-    put-digits-requires
-    (λ c. search needs)
-    returns
-    above-requires
-    put-digits-requires-2
-    (λ c. search needs)
-    returns-2)
+    (tie.spec (λ c κs. search needs) (λ c κs. search needs) (λ c κs. search needs) (λ c. search needs) put-digits-requires (λ c. search needs) returns
+    to-natural-requires put-digits-requires-2 (λ c. search needs) returns-2)

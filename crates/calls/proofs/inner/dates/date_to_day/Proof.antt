@@ -16,10 +16,4 @@ returns c =
 
 pub date-to-day-spec : {M : Type 1} → statement M
 date-to-day-spec =
-    tie.close
-    (tie.spec
-    (λ c κs. holds-at 3 (c .before .pre .numbers))
-    (λ c κs. search needs)
-    (λ c κs. search needs)
-    (λ c. search needs)
-    returns)
+    tie.close (tie.spec (λ c κs. holds-at 3 (c .before .pre .numbers)) (λ c κs. search needs) (λ c κs. search needs) (λ c. search needs) returns)

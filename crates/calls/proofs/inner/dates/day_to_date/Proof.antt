@@ -18,10 +18,4 @@ returns c =
 
 pub day-to-date-spec : {M : Type 1} → statement M
 day-to-date-spec =
-    tie.close
-    (tie.spec
-    (λ c κs. holds-at 1 (c .before .pre .numbers))
-    (λ c κs. search needs)
-    (λ c κs. search needs)
-    (λ c. search needs)
-    returns)
+    tie.close (tie.spec (λ c κs. holds-at 1 (c .before .pre .numbers)) (λ c κs. search needs) (λ c κs. search needs) (λ c. search needs) returns)

@@ -33,11 +33,4 @@ returns c =
 
 pub date-spec : {M : Type 1} → statement M
 date-spec =
-    tie.close
-    (tie.spec
-    int-requires
-    add-byte
-    byte-requires
-    add-byte-2
-    byte-requires-2
-    returns)
+    tie.close (tie.spec int-requires add-byte byte-requires add-byte-2 byte-requires-2 returns)

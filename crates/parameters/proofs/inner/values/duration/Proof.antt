@@ -40,13 +40,4 @@ returns c =
 
 pub duration-spec : {M : Type 1} → statement M
 duration-spec =
-    tie.close
-    (tie.spec
-    long-requires
-    add-long
-    long-requires-2
-    add-long-2
-    long-requires-3
-    add-long-3
-    long-requires-4
-    returns)
+    tie.close (tie.spec long-requires add-long long-requires-2 add-long-2 long-requires-3 add-long-3 long-requires-4 returns)

@@ -52,16 +52,5 @@ returns c =
 pub time-spec : {M : Type 1} → statement M
 time-spec =
     tie.close
-    (tie.spec
-    byte-requires
-    add-byte
-    byte-requires-2
-    add-byte-2
-    byte-requires-3
-    add-short
-    short-requires
-    add-short-2
-    short-requires-2
-    add-short-3
-    short-requires-3
-    returns)
+    (tie.spec byte-requires add-byte byte-requires-2 add-byte-2 byte-requires-3 add-short short-requires add-short-2 short-requires-2 add-short-3
+    short-requires-3 returns)

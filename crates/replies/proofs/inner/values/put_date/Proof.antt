@@ -31,12 +31,5 @@ returns c =
 pub put-date-spec : {M : Type 1} → statement M
 put-date-spec =
     tie.close
-    (tie.spec
-    cast-put-integer
-    (λ c κs. search needs)
-    (λ c. search needs)
-    (λ c κs. search needs)
-    (λ c. search needs)
-    (λ c κs. search needs)
-    (λ c. search needs)
-    returns)
+    (tie.spec cast-put-integer (λ c κs. search needs) (λ c. search needs) (λ c κs. search needs) (λ c. search needs) (λ c κs. search needs)
+    (λ c. search needs) returns)

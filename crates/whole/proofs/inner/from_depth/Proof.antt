@@ -3,11 +3,8 @@ use borrow.Author.Needs.{needs}
 use mir.Facts.{toZ-ofZ, toZ-pos}
 use mir.Syntax.{w64}
 use Rattle.whole.proofs.Edges.{minus-is, minus-fits}
-use Rattle.whole.proofs.inner.minus.Statement.{statement}
-use Rattle.whole.proofs.inner.minus.Tie as tie
-
-cast-result : tie.Need-cast-result
-cast-result c = search needs
+use Rattle.whole.proofs.inner.from_depth.Statement.{statement}
+use Rattle.whole.proofs.inner.from_depth.Tie as tie
 
 sub-result : tie.Need-sub-result
 sub-result c = rw (toZ-pos w64 (c .pre)) (minus-fits _ (c .pre))
@@ -15,5 +12,5 @@ sub-result c = rw (toZ-pos w64 (c .pre)) (minus-fits _ (c .pre))
 returns : tie.Need-returns
 returns c = rw (toZ-ofZ (sub-result c), toZ-pos w64 (c .pre)) (minus-is _)
 
-pub minus-spec : {M : Type 1} → statement M
-minus-spec = tie.close (tie.spec cast-result sub-result returns)
+pub from-depth-spec : {M : Type 1} → statement M
+from-depth-spec = tie.close (tie.spec (λ c. search needs) sub-result returns)

@@ -1,5 +1,4 @@
--- The turn of a difference: the day that moves where date and time pull opposite ways, days as seconds, and differences in days.
--- Assumes nothing.
+-- The adjustment of a difference: the day that moves where date and time pull opposite ways, days as seconds, and differences in days.
 use Prim.Native.Nat.{ℕ, _+_, _-_, _*_, _/_, _%_, _≤_, _<_}
 use native.Mathlib.Omega.{arith}
 use mathlib.Core.Path.{_≡_, refl, sym, _∙_, ap}
@@ -9,7 +8,7 @@ use lib.Dec.{ltb, leb}
 use lib.IntN.{ℤ, pos, negℤ, natAbs, _+ℤ_, _-ℤ_, _*ℤ_}
 use lib.Signed.{ltZ}
 use Rattle.options.specs.Units.{nsPerDay}
-use Rattle.whole.specs.Whole.{_⊖_}
+use Rattle.whole.specs.Whole.{apart, _⊖_}
 use Rattle.whole.proofs.Laws.{up, dn, ints, read-add, read-neg, read-times, read-diff, fdiv-unique}
 use Rattle.whole.proofs.Tests.{alike, and-false}
 use Rattle.iso_date.specs.Proposal.{date, epochDays, epochDaysToISODate, isValidISODate, constrainISODate}
@@ -22,13 +21,13 @@ use Rattle.date_duration.specs.Proposal.{duration}
 use Rattle.options.specs.declared.Unit.{Unit as TemporalUnit}
 use Rattle.options.specs.declared.Unit.the-variants as U
 use Rattle.date_math.specs.Proposal.{directed, isLater, movedBy, restStart, calendarDateUntil}
-use Rattle.date_math.specs.Inner.{placeOf, yearsIn, monthsIn, weeksIn, apart}
+use Rattle.date_math.specs.Inner.{placeOf, yearsIn, monthsIn, weeksIn}
 use Rattle.date_math.proofs.Order.{later-day}
 use Rattle.date_math.proofs.Rest.{constrained-is, rest-between, distance-of}
 use Rattle.date_math.proofs.Until.{difference-is}
 use Rattle.date_math.proofs.Theorems.{in-some-direction}
 use Rattle.iso_date_time.specs.Proposal.{opposed, signOf, movedDays}
-use Rattle.iso_date_time.specs.Inner.{turnDays, Turns}
+use Rattle.iso_date_time.specs.Inner.{adjustedDays, Adjusts}
 use Rattle.iso_date_time.specs.declared.IsoDateTime.{IsoDateTime}
 
 -- ---- days and nanoseconds as seconds
@@ -68,7 +67,7 @@ stays z = rw (and-false (ltZ z (pos 0)), and-false (ltZ (pos 0) z))
 
 module _ (p a q b : ℕ) where
   abbrev moved : ℤ
-  moved = turnDays (pos p) (pos a) (pos q) (pos b)
+  moved = adjustedDays (pos p) (pos a) (pos q) (pos b)
 
   abbrev passed : ℤ
   passed = pos b -ℤ pos a
@@ -77,26 +76,26 @@ module _ (p a q b : ℕ) where
   read-passed = omega (arith, read-add (pos b) (negℤ (pos a)), read-neg (pos a))
 
   moved-down : p < q → b < a → moved ≡ negℤ (pos 1)
-  unfolding turnDays
+  unfolding adjustedDays
   moved-down h k = rw (lt-ltb p q h) (back passed (omega (arith, ints, read-passed)))
 
   moved-up : q < p → a < b → moved ≡ pos 1
-  unfolding turnDays
+  unfolding adjustedDays
   moved-up h k =
       rw (le-ltb p q (omega arith), lt-ltb q p h)
       (forth passed (omega (arith, ints, read-passed)) (omega (arith, ints, read-passed)))
 
   kept-ahead : p < q → a ≤ b → moved ≡ pos 0
-  unfolding turnDays
+  unfolding adjustedDays
   kept-ahead h k = rw (lt-ltb p q h) (stays-ahead passed (omega (arith, ints, read-passed)))
 
   kept-behind : q < p → b ≤ a → moved ≡ pos 0
-  unfolding turnDays
+  unfolding adjustedDays
   kept-behind h k =
       rw (le-ltb p q (omega arith), lt-ltb q p h) (stays-behind passed (omega (arith, ints, read-passed)))
 
   kept-here : q ≤ p → p ≤ q → moved ≡ pos 0
-  unfolding turnDays
+  unfolding adjustedDays
   kept-here h k = rw (le-ltb p q h, le-ltb q p k) (stays passed)
 
   -- ---- what is left, t the days that move
@@ -131,8 +130,8 @@ module _ (p a q b : ℕ) where
 
   -- ---- the five ways
 
-  pub turned-down : p < q → b < a → a < nsPerDay → Turns p a q b (q - 1) true (b + nsPerDay - a)
-  turned-down h k l =
+  pub adjusted-down : p < q → b < a → a < nsPerDay → Adjusts p a q b (q - 1) true (b + nsPerDay - a)
+  adjusted-down h k l =
       let e = moved-down h k in
       record {
         day-is = day-before moved e h;
@@ -141,8 +140,8 @@ module _ (p a q b : ℕ) where
         small = omega arith;
       }
 
-  pub turned-ahead : p < q → a ≤ b → b < nsPerDay → Turns p a q b q true (b - a)
-  turned-ahead h k l =
+  pub adjusted-ahead : p < q → a ≤ b → b < nsPerDay → Adjusts p a q b q true (b - a)
+  adjusted-ahead h k l =
       let e = kept-ahead h k in
       record {
         day-is = same-day moved e;
@@ -151,8 +150,8 @@ module _ (p a q b : ℕ) where
         small = omega arith;
       }
 
-  pub turned-up : q < p → a < b → b < nsPerDay → Turns p a q b (q + 1) false (a + nsPerDay - b)
-  turned-up h k l =
+  pub adjusted-up : q < p → a < b → b < nsPerDay → Adjusts p a q b (q + 1) false (a + nsPerDay - b)
+  adjusted-up h k l =
       let e = moved-up h k in
       record {
         day-is = day-after moved e;
@@ -161,8 +160,8 @@ module _ (p a q b : ℕ) where
         small = omega arith;
       }
 
-  pub turned-behind : q < p → b ≤ a → a < nsPerDay → Turns p a q b q false (a - b)
-  turned-behind h k l =
+  pub adjusted-behind : q < p → b ≤ a → a < nsPerDay → Adjusts p a q b q false (a - b)
+  adjusted-behind h k l =
       let e = kept-behind h k in
       record {
         day-is = same-day moved e;
@@ -171,13 +170,13 @@ module _ (p a q b : ℕ) where
         small = omega arith;
       }
 
-  pub turned-here : (n : ℕ) → q ≤ p → p ≤ q → a < nsPerDay → b < nsPerDay → n ≡ apart a b → Turns p a q b q (leb a b) n
-  turned-here n h k l m d = go (leb a b) refl
+  pub adjusted-here : (n : ℕ) → q ≤ p → p ≤ q → a < nsPerDay → b < nsPerDay → n ≡ apart a b → Adjusts p a q b q (leb a b) n
+  adjusted-here n h k l m d = go (leb a b) refl
     where
       e : moved ≡ pos 0
       e = kept-here h k
 
-      go : (t : Bool) → leb a b ≡ t → Turns p a q b q (leb a b) n
+      go : (t : Bool) → leb a b ≡ t → Adjusts p a q b q (leb a b) n
       go true g =
           let c : a ≤ b = leb-true a b g in
           let i : n ≡ b - a = omega arith in
@@ -209,26 +208,14 @@ same-order x y p q B e f =
 
 pub moved-days-is : (one two : IsoDateTime) (p q B : ℕ) → isValidISODate (one .date) ≡ true → isValidISODate (two .date) ≡ true →
     epochDays (one .date) ≡ p ⊖ B → epochDays (two .date) ≡ q ⊖ B →
-    movedDays one two ≡ turnDays (pos p) (pos (nanoseconds (one .time))) (pos q) (pos (nanoseconds (two .time)))
-unfolding movedDays turnDays
+    movedDays one two ≡ adjustedDays (pos p) (pos (nanoseconds (one .time))) (pos q) (pos (nanoseconds (two .time)))
+unfolding movedDays adjustedDays
 moved-days-is one two p q B v w e f =
     let g : isLater (two .date) (one .date) ≡ ltb p q =
     later-day (two .date) (one .date) w v ∙ same-order (epochDays (one .date)) (epochDays (two .date)) p q B e f in
     let h : isLater (one .date) (two .date) ≡ ltb q p =
     later-day (one .date) (two .date) v w ∙ same-order (epochDays (two .date)) (epochDays (one .date)) q p B f e in
     rw (g, h)
-
--- ---- dates by their day numbers
-
-module _ (day : ℕ) (d : IsoDate) (is : d ≡ epochDaysToISODate ((day - 1) ⊖ dayBias)) where
-  pub day-valid : isValidISODate d ≡ true
-  day-valid = rw is (back-valid ((day - 1) ⊖ dayBias))
-
-  pub until-day : (one : IsoDate) (unit : TemporalUnit) → 1 ≤ day →
-      calendarDateUntil one d unit ≡ calendarDateUntil one (epochDaysToISODate (day ⊖ (dayBias + 1))) unit
-  until-day one unit h =
-      let e : (day - 1) ⊖ dayBias ≡ day ⊖ (dayBias + 1) = omega (arith, ints, read-diff (day - 1) dayBias, read-diff day (dayBias + 1)) in
-      rw (is, e)
 
 -- ---- the difference in days
 
