@@ -17,8 +17,10 @@ use Rattle.date_math.specs.Paper.{dateSum, dateDifference}
 use Rattle.iso_date_time.specs.Paper.{dateTimeLimits, balanceDateTime, roundDateTime, dateTimeDifference, fromInstant}
 use Rattle.parameters.specs.Kinds.{Kind, signed, unsigned}
 use Rattle.parameters.specs.Meaning.{at, natAt}
-use Rattle.parameters.specs.Parameters.{dateKinds, timeKinds, partsKinds, dateTimeKinds, durationKinds, choiceKinds, overflowKind, unitKind, modeKind, dateAt, timeAt, dateTimeAt, durationAt, partAt, overflowOf, unitOf, modeOf}
-use Rattle.replies.specs.Replies.{shown, noValues, naturalValue, wholeValue, dateValues, yearMonthValues, timeValues, balancedValues, spanValues, durationValues, signValue, dateTimeValues, recordValues}
+use Rattle.parameters.specs.Parameters.{dateKinds, timeKinds, partsKinds, dateTimeKinds, durationKinds, choiceKinds, overflowKind, unitKind}
+use Rattle.parameters.specs.Parameters.{modeKind, dateAt, timeAt, dateTimeAt, durationAt, partAt, overflowOf, unitOf, modeOf}
+use Rattle.replies.specs.Replies.{shown, noValues, naturalValue, wholeValue, dateValues, yearMonthValues, timeValues, balancedValues}
+use Rattle.replies.specs.Replies.{spanValues, durationValues, signValue, dateTimeValues, recordValues}
 
 pub record Row : Type 0 where
   pub name : String

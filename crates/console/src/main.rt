@@ -80,7 +80,8 @@ fn answer_block(
 ) -> Progress
     requires { ⌜ Spells (now table) × ((length (now line) ≡ lineRoom) × ((s .have ≤ lineRoom) × (responseRoom ≤ length (now out)))) ⌝ }
     ensures inside { λ r. ⌜ r .have ≤ lineRoom ⌝ }
-    ensures keeps { λ r. ⌜ (r .filled ≡ 0 → kept (now (line .exit)) (r .have) (r .over) ≡ keptAfter (kept (now (line .entry)) (s .have) (s .over)) (now (block .entry))) ⌝ }
+    ensures keeps { λ r. ⌜ (r .filled ≡ 0 → kept (now (line .exit)) (r .have) (r .over) ≡ keptAfter (kept (now (line .entry)) (s .have) (s .over))
+        (now (block .entry))) ⌝ }
 {
     let mut state = Progress {
         at: 0,

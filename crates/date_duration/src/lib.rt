@@ -1,13 +1,15 @@
 // Date durations: years, months, weeks and days that do not pull opposite ways.
-use whole::inner::from_natural;
-use whole::inner::negated;
-use whole::inner::size_of_negative;
-use whole::inner::to_natural;
 ghost use mathlib.Core.Path.{_≡_};
 ghost use Prim.Native.Nat.{_<_, _^_};
-ghost use lib.IntN.{natAbs, pos, negℤ};
-ghost use Rattle.date_duration.specs.Proposal.{duration, signOf, small, smallDays, allSmall, anyBelow, anyAbove, isValidDuration, dateDurationSign, keptOr};
+ghost use lib.IntN.{natAbs, pos};
+ghost use Rattle.date_duration.specs.Proposal.{duration, signOf, small, smallDays, allSmall, anyBelow, anyAbove};
+ghost use Rattle.date_duration.specs.Proposal.{isValidDuration, dateDurationSign, keptOr};
 ghost use Rattle.date_duration.specs.Paper.{ofDuration, ofSign, newDuration, durationSign, durationAbs, durationNegated, durationAdjust};
+
+// The largest size of years, months and weeks: 2^32 - 1.
+const MOST_PART: i64 = 4_294_967_295;
+// The most days whose seconds are below 2^53: (2^53 - 1) / 86,400, rounded down.
+const MOST_DAYS: i64 = 104_249_991_374;
 
 // A duration's parts. Any numbers may stand in them; each call that takes a record checks it.
 pub struct DateDuration {
@@ -55,20 +57,14 @@ fn sign_of(x: i64) -> Sign
 fn is_small(x: i64) -> bool
     ensures { λ r. ⌜ r ≡ small x ⌝ }
 {
-    if x < -4_294_967_295 {
-        return false;
-    }
-    x <= 4_294_967_295
+    (-MOST_PART <= x) & (x <= MOST_PART)
 }
 
 // Whether the seconds of so many days are below 2^53 in size.
 fn is_small_in_days(x: i64) -> bool
     ensures { λ r. ⌜ r ≡ smallDays x ⌝ }
 {
-    if x < -104_249_991_374 {
-        return false;
-    }
-    x <= 104_249_991_374
+    (-MOST_DAYS <= x) & (x <= MOST_DAYS)
 }
 
 // The size of a part of a valid duration.
@@ -77,20 +73,9 @@ fn size(x: i64) -> i64
     ensures { λ r. ⌜ r ≡ pos (natAbs x) ⌝ }
 {
     if x < 0 {
-        return from_natural(size_of_negative(x));
+        return -x;
     }
     x
-}
-
-// A part of a valid duration with its sign turned.
-fn turned(x: i64) -> i64
-    requires { ⌜ natAbs x < 2 ^ 62 ⌝ }
-    ensures { λ r. ⌜ r ≡ negℤ x ⌝ }
-{
-    if x < 0 {
-        return from_natural(size_of_negative(x));
-    }
-    negated(to_natural(x))
 }
 
 fn kept_or(part: Part, old: i64) -> i64
@@ -199,10 +184,10 @@ impl DateDuration {
             return DurationResult::Refused(refusal::DURATION);
         }
         DurationResult::Duration(DateDuration {
-            years: turned(self.years),
-            months: turned(self.months),
-            weeks: turned(self.weeks),
-            days: turned(self.days),
+            years: -self.years,
+            months: -self.months,
+            weeks: -self.weeks,
+            days: -self.days,
         })
     }
 

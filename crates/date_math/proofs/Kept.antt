@@ -1,5 +1,4 @@
 -- The count that a trial of candidates keeps, where passing is a matter of distance: as often as the step goes into it.
--- Assumes nothing.
 use Prim.Native.Nat.{ℕ, zero, suc, _+_, _-_, _*_, _/_, _≤_, _<_}
 use native.Mathlib.Omega.{arith}
 use mathlib.Core.Path.{_≡_, refl, sym, _∙_}

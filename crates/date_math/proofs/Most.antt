@@ -1,5 +1,5 @@
 -- The most that can be moved without passing, in numbers: where the way is `gap` long and one count moves by `step`, it is as often as
--- the step goes into the gap, in the direction of the way, and no other count is the most. Assumes nothing.
+-- the step goes into the gap, in the direction of the way, and no other count is the most.
 use Prim.Native.Nat.{ℕ, zero, suc, _+_, _-_, _*_, _/_, _≤_, _<_}
 use native.Mathlib.Nat.{div-add-mod, mod-lt, mul-le-mul-left}
 use native.Mathlib.Omega.{arith}
@@ -61,8 +61,10 @@ stands-on false a b t gap n e f h =
 
 -- too far, either way
 stands-off : (forward : Bool) (a b t x : ℤ) (gap : ℕ) → b ≡ a +ℤ directed forward gap → t ≡ a +ℤ x → gap < natAbs x → between a b t ≡ false
-stands-off true a b t (pos x) gap e f h = off-above a b t (omega (arith, ints, read-add a (pos x))) (omega (arith, ints, read-add a (pos x), read-add a (pos gap)))
-stands-off true a b t (negsuc x) gap e f h = off-below a b t (omega (arith, ints, read-add a (negsuc x))) (omega (arith, ints, read-add a (negsuc x), read-add a (pos gap)))
+stands-off true a b t (pos x) gap e f h = off-above a b t (omega (arith, ints, read-add a (pos x)))
+    (omega (arith, ints, read-add a (pos x), read-add a (pos gap)))
+stands-off true a b t (negsuc x) gap e f h = off-below a b t (omega (arith, ints, read-add a (negsuc x)))
+    (omega (arith, ints, read-add a (negsuc x), read-add a (pos gap)))
 stands-off false a b t (pos x) gap e f h =
     off-above a b t (omega (arith, ints, read-add a (pos x))) (omega (arith, ints, read-add a (pos x), read-neg (pos gap), read-add a (negℤ (pos gap))))
 stands-off false a b t (negsuc x) gap e f h =
@@ -71,7 +73,8 @@ stands-off false a b t (negsuc x) gap e f h =
 -- against the direction
 stands-against : (forward : Bool) (a b t x : ℤ) (gap : ℕ) → b ≡ a +ℤ directed forward gap → t ≡ a +ℤ x → (Ahead forward (pos 0) x → ⊥) → between a b t ≡ false
 stands-against true a b t (pos x) gap e f h = absurd (h (omega (arith, ints)))
-stands-against true a b t (negsuc x) gap e f h = off-below a b t (omega (arith, ints, read-add a (negsuc x))) (omega (arith, ints, read-add a (negsuc x), read-add a (pos gap)))
+stands-against true a b t (negsuc x) gap e f h = off-below a b t (omega (arith, ints, read-add a (negsuc x)))
+    (omega (arith, ints, read-add a (negsuc x), read-add a (pos gap)))
 stands-against false a b t x gap e f h = go (ltZ (pos 0) x) refl
   where
     go : (s : Bool) → ltZ (pos 0) x ≡ s → between a b t ≡ false
@@ -135,6 +138,7 @@ module _ (forward : Bool) (a b : ℤ) (gap step : ℕ) (positive : 0 < step) (fa
       let low : step * n ≤ gap = ⊎-elim (λ l. clash (P k) (m .stands) (too-far k l)) (λ l. l) (split gap (step * n)) in
       let next : n < natAbs (directed forward (n + 1)) = rw (size-directed forward (n + 1)) (omega arith) in
       let high : gap < step * (n + 1) =
-      ⊎-elim (λ l. l) (λ l. clash (P (directed forward (n + 1))) (near (n + 1) l) (m .larger-pass (directed forward (n + 1)) next)) (split gap (step * (n + 1))) in
+      ⊎-elim (λ l. l) (λ l. clash (P (directed forward (n + 1))) (near (n + 1) l) (m .larger-pass (directed forward (n + 1)) next))
+      (split gap (step * (n + 1))) in
       let e : gap / step ≡ n = quotient step gap n (gap - step * n) (omega arith) (omega arith) .0 in
       in-direction forward refl k (m .stands) ∙ ap (directed forward) (sym e)

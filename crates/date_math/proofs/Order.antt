@@ -1,4 +1,4 @@
--- The order of valid dates, by year, then month, then day, is that of their day numbers. Assumes nothing.
+-- The order of valid dates, by year, then month, then day, is that of their day numbers.
 use Prim.Native.Nat.{ℕ, _+_, _-_, _*_, _≤_, _<_}
 use native.Mathlib.Omega.{arith}
 use mathlib.Core.Path.{_≡_, refl, sym, subst}

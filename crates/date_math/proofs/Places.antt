@@ -1,5 +1,5 @@
 -- A triple of year, month and day as one number, its place: the order of triples is that of their places, and moving by years and
--- months, the day not shortened, moves the place by 384 and 32. Assumes nothing.
+-- months, the day not shortened, moves the place by 384 and 32.
 use Prim.Native.Nat.{ℕ, _+_, _-_, _*_, _≤_}
 use native.Mathlib.Omega.{arith}
 use mathlib.Core.Path.{_≡_, refl, sym, _∙_, ap, ap₂}
@@ -37,22 +37,73 @@ module _ (y z : ℤ) (m d n e : ℕ) where
       go : (p : Bool) → ltZ z y ≡ p → (q : Bool) → leZ z y ≡ q → (r : Bool) → ltb n m ≡ r → (s : Bool) → leb n m ≡ s →
           (t : Bool) → ltb e d ≡ t → (ltZ z y || (leZ z y && (ltb n m || (leb n m && ltb e d)))) ≡ ltZ there here
       go true p q _ r _ s _ t _ =
-          rw p (sym (omega (arith, ints, read-times 384 y, read-times 384 z, read-add (pos 384 *ℤ y) (pos (32 * m + d)), read-add (pos 384 *ℤ z) (pos (32 * n + e)))))
+          rw p (sym (omega (
+            arith,
+            ints,
+            read-times 384 y,
+            read-times 384 z,
+            read-add (pos 384 *ℤ y) (pos (32 * m + d)),
+            read-add (pos 384 *ℤ z) (pos (32 * n + e)),
+          )))
       go false p false q r _ s _ t _ =
-          rw (p, q) (sym (omega (arith, ints, read-times 384 y, read-times 384 z, read-add (pos 384 *ℤ y) (pos (32 * m + d)), read-add (pos 384 *ℤ z) (pos (32 * n + e)))))
+          rw (p, q) (sym (omega (
+            arith,
+            ints,
+            read-times 384 y,
+            read-times 384 z,
+            read-add (pos 384 *ℤ y) (pos (32 * m + d)),
+            read-add (pos 384 *ℤ z) (pos (32 * n + e)),
+          )))
       go false p true q true r s _ t _ =
-          rw (p, q, r) (sym (omega (arith, ints, ltb-true n m r, read-times 384 y, read-times 384 z, read-add (pos 384 *ℤ y) (pos (32 * m + d)), read-add (pos 384 *ℤ z) (pos (32 * n + e)))))
+          rw (p, q, r) (sym (omega (
+            arith,
+            ints,
+            ltb-true n m r,
+            read-times 384 y,
+            read-times 384 z,
+            read-add (pos 384 *ℤ y) (pos (32 * m + d)),
+            read-add (pos 384 *ℤ z) (pos (32 * n + e)),
+          )))
       go false p true q false r false s t _ =
-          rw (p, q, r, s) (sym (omega (arith, ints, leb-false n m s, read-times 384 y, read-times 384 z, read-add (pos 384 *ℤ y) (pos (32 * m + d)), read-add (pos 384 *ℤ z) (pos (32 * n + e)))))
+          rw (p, q, r, s) (sym (omega (
+            arith,
+            ints,
+            leb-false n m s,
+            read-times 384 y,
+            read-times 384 z,
+            read-add (pos 384 *ℤ y) (pos (32 * m + d)),
+            read-add (pos 384 *ℤ z) (pos (32 * n + e)),
+          )))
       go false p true q false r true s true t =
-          rw (p, q, r, s, t) (sym (omega (arith, ints, ltb-false n m r, leb-true n m s, ltb-true e d t, read-times 384 y, read-times 384 z, read-add (pos 384 *ℤ y) (pos (32 * m + d)), read-add (pos 384 *ℤ z) (pos (32 * n + e)))))
+          rw (p, q, r, s, t) (sym (omega (
+            arith,
+            ints,
+            ltb-false n m r,
+            leb-true n m s,
+            ltb-true e d t,
+            read-times 384 y,
+            read-times 384 z,
+            read-add (pos 384 *ℤ y) (pos (32 * m + d)),
+            read-add (pos 384 *ℤ z) (pos (32 * n + e)),
+          )))
       go false p true q false r true s false t =
-          rw (p, q, r, s, t) (sym (omega (arith, ints, ltb-false n m r, leb-true n m s, ltb-false e d t, read-times 384 y, read-times 384 z, read-add (pos 384 *ℤ y) (pos (32 * m + d)), read-add (pos 384 *ℤ z) (pos (32 * n + e)))))
+          rw (p, q, r, s, t) (sym (omega (
+            arith,
+            ints,
+            ltb-false n m r,
+            leb-true n m s,
+            ltb-false e d t,
+            read-times 384 y,
+            read-times 384 z,
+            read-add (pos 384 *ℤ y) (pos (32 * m + d)),
+            read-add (pos 384 *ℤ z) (pos (32 * n + e)),
+          )))
 
 pub later-place : (a b : IsoDate) → Proper a → Proper b → isLater a b ≡ ltZ (placeOf b) (placeOf a)
 unfolding isLater placeOf
 later-place a b p q =
-    later-is (a .year) (b .year) (a .month) (a .day) (b .month) (b .day) (p .month-low) (p .month-high) (p .day-high) (q .month-low) (q .month-high) (q .day-high)
+    later-is (a .year) (b .year) (a .month) (a .day) (b .month) (b .day) (p .month-low) (p .month-high) (p .day-high) (q .month-low) (q .month-high)
+    (q .day-high)
 
 -- ---- moving
 

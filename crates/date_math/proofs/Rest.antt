@@ -1,6 +1,5 @@
 -- Where the rest starts: the date that years and months lead to, its day constrained, lies between the two dates. Shortening the day
 -- matters only where the month reached is the second date's own, and there the second date's day is one that the month has.
--- Assumes nothing.
 use Prim.Native.Nat.{ℕ, _+_, _*_, _≤_, _<_, min, max}
 use native.Mathlib.Omega.{arith}
 use mathlib.Core.Path.{_≡_, refl, sym, _∙_, ap}
@@ -165,7 +164,16 @@ module _ (forward : Bool) (one two : IsoDate) (v : isValidISODate one ≡ true) 
 pub distance-of : (forward : Bool) (a b : ℤ) → Ahead forward a b → b ≡ a +ℤ directed forward (natAbs (b -ℤ a))
 distance-of true a b h = distance b a h .0
 distance-of false a b h =
-    omega (arith, ints, size-of (b -ℤ a), read-add b (negℤ a), read-neg a, range-of (b -ℤ a), read-neg (pos (natAbs (b -ℤ a))), read-add a (negℤ (pos (natAbs (b -ℤ a)))))
+    omega (
+      arith,
+      ints,
+      size-of (b -ℤ a),
+      read-add b (negℤ a),
+      read-neg a,
+      range-of (b -ℤ a),
+      read-neg (pos (natAbs (b -ℤ a))),
+      read-add a (negℤ (pos (natAbs (b -ℤ a)))),
+    )
 
 pub distance-is : (forward : Bool) (a b : ℤ) (n : ℕ) → b ≡ a +ℤ directed forward n → natAbs (b -ℤ a) ≡ n
 distance-is true a b n e =

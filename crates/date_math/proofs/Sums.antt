@@ -11,7 +11,8 @@ use Rattle.refusal.proofs.Answers.{given-inj, never}
 use Rattle.whole.specs.Whole.{fdiv}
 use Rattle.whole.proofs.Laws.{ints, read-add}
 use Rattle.whole.proofs.Edges.{clamp-same}
-use Rattle.iso_date.specs.Proposal.{date, dayFromYear, leapYear, daysBeforeMonth, epochDays, epochDaysToISODate, isValidISODate, isoDateWithinLimits, constrainISODate}
+use Rattle.iso_date.specs.Proposal.{date, dayFromYear, leapYear, daysBeforeMonth, epochDays, epochDaysToISODate, isValidISODate}
+use Rattle.iso_date.specs.Proposal.{isoDateWithinLimits, constrainISODate}
 use Rattle.iso_date.specs.Paper.{balanced, dateLimits, regulateDate, makeDate, dayToDate}
 use Rattle.iso_date.specs.declared.IsoDate.{IsoDate}
 use Rattle.iso_date.proofs.Dates.{read-valid, day-in-year, in-year, there-and-back, back-and-there}
@@ -65,7 +66,8 @@ limit-year d f =
     low y n i e h l false t = omega (arith, ints)
     low y n i e h l true t =
         let a : (y +ℤ pos 1) ≤ℤ negℤ (pos 300000) = omega (arith, ints, read-add y (pos 1)) in
-        let b : (dayFromYear y +ℤ pos (cond (leapYear y) 366 365)) ≤ℤ dayFromYear (negℤ (pos 300000)) = rw (year-length y) at (year-mono (y +ℤ pos 1) (negℤ (pos 300000)) a) in
+        let b : (dayFromYear y +ℤ pos (cond (leapYear y) 366 365)) ≤ℤ dayFromYear (negℤ (pos 300000)) =
+        rw (year-length y) at (year-mono (y +ℤ pos 1) (negℤ (pos 300000)) a) in
         let z : ⊥ = omega (arith, ints, rw early at b, read-add (dayFromYear y) (pos i), read-add (dayFromYear y) (pos (cond (leapYear y) 366 365))) in
         absurd z
 
@@ -154,7 +156,8 @@ module _ (one two : IsoDate) (unit : TemporalUnit) where
   unfolding dateDifference
   difference-second n e f = rw (← e, ← f)
 
-  pub difference-unit : (rank : ℕ) → given tt ≡ dateLimits one → given tt ≡ dateLimits two → rank ≡ unitRank unit → 3 < rank → refused 5 ≡ dateDifference one two unit
+  pub difference-unit : (rank : ℕ) → given tt ≡ dateLimits one → given tt ≡ dateLimits two → rank ≡ unitRank unit → 3 < rank →
+      refused 5 ≡ dateDifference one two unit
   unfolding dateDifference
   difference-unit rank e f g h = rw (← e, ← f, lt-leb (unitRank unit) 3 (omega arith))
 

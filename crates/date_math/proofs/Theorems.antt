@@ -1,5 +1,5 @@
 -- Demand 3: for every two valid dates within the limits and each unit from year to day the difference is given, meets the rules, and
--- is the only record that does. Assumes nothing.
+-- is the only record that does.
 use Prim.Native.Nat.{ℕ, _+_, _-_, _*_, _/_, _^_, _≤_, _<_}
 use native.Mathlib.Omega.{arith}
 use mathlib.Core.Path.{_≡_, refl, sym, _∙_, ap, subst}
@@ -25,7 +25,8 @@ use Rattle.date_math.specs.Paper.{isDateUnit, dateSum, dateDifference}
 use Rattle.date_math.specs.Rules.{onTheWay, MeetsTheRules}
 use Rattle.date_math.specs.Claims.{Ahead, PartsAhead}
 use Rattle.date_math.specs.Inner.{placeOf, yearsIn, monthsIn, weeksIn}
-use Rattle.date_math.proofs.Places.{later-place, place-years, place-moved, moved-proper, years-proper, directed-times, directed-add, directed-none, split-at}
+use Rattle.date_math.proofs.Places.{later-place, place-years, place-moved, moved-proper, years-proper, directed-times, directed-add}
+use Rattle.date_math.proofs.Places.{directed-none, split-at}
 use Rattle.date_math.proofs.Order.{valid-proper, later-day}
 use Rattle.date_math.proofs.Rest.{rest-between, distance-of}
 use Rattle.date_math.proofs.Until.{within-years, years-within, months-within, weeks-within, closed, difference-is}
@@ -49,14 +50,26 @@ module _ (forward : Bool) (y m w d : ℕ) where
       not-above n = omega (arith, ints, read-neg (pos n))
 
       go : (f : Bool) →
-          (anyBelow (duration (directed f y) (directed f m) (directed f w) (directed f d)) && anyAbove (duration (directed f y) (directed f m) (directed f w) (directed f d))) ≡ false
+          (anyBelow (duration (directed f y) (directed f m) (directed f w) (directed f d)) &&
+          anyAbove (duration (directed f y) (directed f m) (directed f w) (directed f d))) ≡ false
       go true = rw (not-below y, not-below m, not-below w, not-below d)
-      go false = rw (not-above y, not-above m, not-above w, not-above d) (and-false (anyBelow (duration (negℤ (pos y)) (negℤ (pos m)) (negℤ (pos w)) (negℤ (pos d)))))
+      go false = rw (not-above y, not-above m, not-above w, not-above d) (and-false (anyBelow
+          (duration (negℤ (pos y)) (negℤ (pos m)) (negℤ (pos w)) (negℤ (pos d)))))
 
   parts-valid : y < 2 ^ 32 → m < 2 ^ 32 → w < 2 ^ 32 → d * 86400 < 2 ^ 53 → isValidDuration parts ≡ true
   unfolding isValidDuration allSmall small smallDays
   parts-valid a b c e =
-      rw (size-directed forward y, size-directed forward m, size-directed forward w, size-directed forward d, lt-ltb y (2 ^ 32) a, lt-ltb m (2 ^ 32) b, lt-ltb w (2 ^ 32) c, lt-ltb (d * 86400) (2 ^ 53) e, one-way)
+      rw (
+        size-directed forward y,
+        size-directed forward m,
+        size-directed forward w,
+        size-directed forward d,
+        lt-ltb y (2 ^ 32) a,
+        lt-ltb m (2 ^ 32) b,
+        lt-ltb w (2 ^ 32) c,
+        lt-ltb (d * 86400) (2 ^ 53) e,
+        one-way,
+      )
 
 -- ---- weeks and days of one direction, fewer than seven days: the only pair of their sum
 
@@ -122,10 +135,12 @@ module _ (one two : IsoDate) (unit : TemporalUnit) (one-fine : Fine one) (two-fi
   start-fine : Fine start
   unfolding restStart
   start-fine =
-      let b = go forward (epochDays one) (epochDays start) (epochDays two) (rest-lies .0) (rest-lies .1) (one-fine .low) (one-fine .high) (two-fine .low) (two-fine .high) in
+      let b = go forward (epochDays one) (epochDays start) (epochDays two) (rest-lies .0) (rest-lies .1) (one-fine .low) (one-fine .high)
+      (two-fine .low) (two-fine .high) in
       record { valid = constrain-valid (movedBy one (directed forward years) (directed forward months)); low = b .0; high = b .1 }
     where
-      go : (f : Bool) (a s b : ℤ) → Ahead f a s → Ahead f s b → negℤ (pos 100000001) ≤ℤ a → a ≤ℤ pos 100000000 → negℤ (pos 100000001) ≤ℤ b → b ≤ℤ pos 100000000 →
+      go : (f : Bool) (a s b : ℤ) → Ahead f a s → Ahead f s b → negℤ (pos 100000001) ≤ℤ a → a ≤ℤ pos 100000000 → negℤ (pos 100000001) ≤ℤ b →
+          b ≤ℤ pos 100000000 →
           (negℤ (pos 100000001) ≤ℤ s) × (s ≤ℤ pos 100000000)
       go true a s b h k l m n o = (omega (arith, ints), omega (arith, ints))
       go false a s b h k l m n o = (omega (arith, ints), omega (arith, ints))
@@ -167,7 +182,8 @@ module _ (one two : IsoDate) (unit : TemporalUnit) (one-fine : Fine one) (two-fi
   answer-adds-back : dateSum one answer Constrain ≡ given two
   unfolding restStart
   answer-adds-back =
-      sum-goes one answer one-fine start-fine answer-valid ∙ ap dayToDate (go (epochDays start) (epochDays two) rest (weeksIn unit rest) (weeks-within unit rest) left) ∙ day-back two two-fine
+      sum-goes one answer one-fine start-fine answer-valid ∙ ap dayToDate (go (epochDays start) (epochDays two) rest (weeksIn unit rest)
+      (weeks-within unit rest) left) ∙ day-back two two-fine
     where
       go : (s t : ℤ) (n w : ℕ) → 7 * w ≤ n → t ≡ s +ℤ directed forward n → s +ℤ (directed forward (n - 7 * w) +ℤ pos 7 *ℤ directed forward w) ≡ t
       go s t n w h e =
@@ -273,7 +289,8 @@ module _ (one two : IsoDate) (unit : TemporalUnit) (one-fine : Fine one) (two-fi
       go false e =
           let z : w ≡ pos 0 = r .no-weeks e in
           let f : d ≡ directed forward rest = alone d w (directed forward rest) z (days-left w d (r .adds-back)) in
-          rw (no-weeks-counted e, z, f, directed-none forward) (ap (λ (n : ℕ). duration (directed forward years) (directed forward months) (pos 0) (directed forward n)) (omega arith))
+          rw (no-weeks-counted e, z, f, directed-none forward) (ap (λ (n : ℕ). duration (directed forward years) (directed forward months) (pos 0)
+          (directed forward n)) (omega arith))
         where
           alone : (d w s : ℤ) → w ≡ pos 0 → d +ℤ pos 7 *ℤ w ≡ s → d ≡ s
           alone d w s e f = omega (arith, ints, read-times 7 w, read-add d (pos 7 *ℤ w))

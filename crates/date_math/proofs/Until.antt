@@ -1,5 +1,5 @@
 -- The difference in closed form. Between two dates lies a gap of places; the years kept are as often as 384 goes into it, the months
--- as often as 32 goes into what is left. The rest starts between the dates, so its days are the exact distance. Assumes nothing.
+-- as often as 32 goes into what is left. The rest starts between the dates, so its days are the exact distance.
 use Prim.Native.Nat.{ℕ, _+_, _-_, _*_, _/_, _≤_, _<_}
 use native.Mathlib.Nat.{mul-le-mul-right}
 use native.Mathlib.Omega.{arith}
@@ -19,11 +19,14 @@ use Rattle.iso_date.proofs.Dates.{back-valid, back-and-there}
 use Rattle.date_duration.specs.Proposal.{duration}
 use Rattle.date_duration.specs.declared.DateDuration.{DateDuration}
 use Rattle.options.specs.declared.Unit.{Unit as TemporalUnit}
-use Rattle.date_math.specs.Proposal.{isLater, isoDateSurpasses, directed, movedBy, inYears, addDaysToISODate, yearsUntil, monthsUntil, restStart, daysUntil, yearsFound, monthsFound, weeksFound, dateUntil, calendarDateUntil, countsYears, countsMonths, countsWeeks}
+use Rattle.date_math.specs.Proposal.{isLater, isoDateSurpasses, directed, movedBy, inYears, addDaysToISODate, yearsUntil, monthsUntil}
+use Rattle.date_math.specs.Proposal.{restStart, daysUntil, yearsFound, monthsFound, weeksFound, dateUntil, calendarDateUntil}
+use Rattle.date_math.specs.Proposal.{countsYears, countsMonths, countsWeeks}
 use Rattle.date_math.specs.Claims.{Ahead}
 use Rattle.date_math.specs.Inner.{placeOf, placeBias, yearsIn, monthsIn, weeksIn}
 use Rattle.date_math.proofs.Kept.{kept-is}
-use Rattle.date_math.proofs.Places.{later-place, place-years, moved-proper, years-proper, place-moved-on, directed-times, split-at, surpasses-by, beyond-is, surpasses-is}
+use Rattle.date_math.proofs.Places.{later-place, place-years, moved-proper, years-proper, place-moved-on, directed-times, split-at}
+use Rattle.date_math.proofs.Places.{surpasses-by, beyond-is, surpasses-is}
 use Rattle.date_math.proofs.Order.{valid-proper, later-day}
 use Rattle.date_math.proofs.Rest.{rest-between, fold-years, distance-is}
 
@@ -83,7 +86,8 @@ module _ (forward : Bool) (one two : IsoDate) (v : isValidISODate one ≡ true) 
   years-are =
       kept-is (λ k. isoDateSurpasses forward (inYears one (directed forward k)) two) 384 gap
       (λ k.
-      surpasses-is forward one two (inYears one (directed forward k)) gap (384 * k) (valid-proper two w) (years-proper one (directed forward k) (valid-proper one v)) far
+      surpasses-is forward one two (inYears one (directed forward k)) gap (384 * k) (valid-proper two w)
+      (years-proper one (directed forward k) (valid-proper one v)) far
       (place-years one (directed forward k) ∙ ap (λ (z : ℤ). placeOf one +ℤ z) (directed-times forward 384 k)))
       (natAbs (two .year -ℤ one .year) + 1) within-years
 
@@ -173,7 +177,8 @@ module _ (forward : Bool) (one two : IsoDate) (unit : TemporalUnit) (v : isValid
       ap (λ (n : ℕ). cond (countsWeeks unit) n 0)
       (days-are forward 7 (restStart forward one (yearsIn unit gap) (monthsIn unit gap)) two rest (omega arith) w left)
 
-  days-found : daysUntil forward 1 (addDaysToISODate (restStart forward one (yearsIn unit gap) (monthsIn unit gap)) (directed forward (7 * weeksIn unit rest))) two ≡
+  days-found : daysUntil forward 1 (addDaysToISODate (restStart forward one (yearsIn unit gap) (monthsIn unit gap))
+      (directed forward (7 * weeksIn unit rest))) two ≡
       rest - 7 * weeksIn unit rest
   days-found =
       let start : IsoDate = restStart forward one (yearsIn unit gap) (monthsIn unit gap) in
@@ -199,7 +204,10 @@ module _ (forward : Bool) (one two : IsoDate) (unit : TemporalUnit) (v : isValid
     where
       go : (f : Bool) (a b : ℤ) → b ≡ a +ℤ directed f gap → (ltZ a b ≡ f) × (ltZ b a ≡ not f)
       go true a b e = (omega (arith, ints, read-add a (pos gap)), omega (arith, ints, read-add a (pos gap)))
-      go false a b e = (omega (arith, ints, read-neg (pos gap), read-add a (negℤ (pos gap))), omega (arith, ints, read-neg (pos gap), read-add a (negℤ (pos gap))))
+      go false a b e = (
+        omega (arith, ints, read-neg (pos gap), read-add a (negℤ (pos gap))),
+        omega (arith, ints, read-neg (pos gap), read-add a (negℤ (pos gap))),
+      )
 
   no-sign : gap ≡ 0 → (isLater two one ≡ false) × (isLater one two ≡ false)
   no-sign h =
@@ -210,7 +218,10 @@ module _ (forward : Bool) (one two : IsoDate) (unit : TemporalUnit) (v : isValid
     where
       go : (f : Bool) (a b : ℤ) → b ≡ a +ℤ directed f gap → (ltZ a b ≡ false) × (ltZ b a ≡ false)
       go true a b e = (omega (arith, ints, read-add a (pos gap)), omega (arith, ints, read-add a (pos gap)))
-      go false a b e = (omega (arith, ints, read-neg (pos gap), read-add a (negℤ (pos gap))), omega (arith, ints, read-neg (pos gap), read-add a (negℤ (pos gap))))
+      go false a b e = (
+        omega (arith, ints, read-neg (pos gap), read-add a (negℤ (pos gap))),
+        omega (arith, ints, read-neg (pos gap), read-add a (negℤ (pos gap))),
+      )
 
   nothing-left : gap ≡ 0 → rest ≡ 0
   nothing-left h =
@@ -232,7 +243,8 @@ module _ (forward : Bool) (one two : IsoDate) (unit : TemporalUnit) (v : isValid
       zeros false y m w d a b c e = rw (a, b, c, e)
 
       some : (f : Bool) → isLater two one ≡ f → isLater one two ≡ not f →
-          cond (isLater two one) (dateUntil true one two unit) (cond (isLater one two) (dateUntil false one two unit) (duration (pos 0) (pos 0) (pos 0) (pos 0))) ≡
+          cond (isLater two one) (dateUntil true one two unit) (cond (isLater one two) (dateUntil false one two unit)
+          (duration (pos 0) (pos 0) (pos 0) (pos 0))) ≡
           dateUntil f one two unit
       some true e g = rw e
       some false e g = rw (e, g)
@@ -294,4 +306,5 @@ module _ (one two : IsoDate) (unit : TemporalUnit) (v : isValidISODate one ≡ t
       let begins = rw (fold-years (leb a b) one (yearsIn unit (apart a b)) (monthsIn unit (apart a b))) at (rw (years, months) at start) in
       rw (years, months, weeks, days)
       (sym (difference-is (leb a b) one two unit v w (apart a b) (apart s t) far
-      (left-of (leb a b) s t dayBias (epochDays (restStart (leb a b) one (yearsIn unit (apart a b)) (monthsIn unit (apart a b)))) (epochDays two) begins end (lies .1))))
+      (left-of (leb a b) s t dayBias (epochDays (restStart (leb a b) one (yearsIn unit (apart a b)) (monthsIn unit (apart a b)))) (epochDays two)
+      begins end (lies .1))))

@@ -16,8 +16,11 @@ use Rattle.refusal.proofs.Answers.{given-inj, never}
 use Rattle.whole.specs.Whole.{_⊖_, fmod, clampZ}
 use Rattle.whole.proofs.Laws.{whole, ints, ⊖-same, size-of, range-of, read-add, read-diff, read-times}
 use Rattle.whole.proofs.Tests.{alike, both, one-of, neither, and-false}
-use Rattle.iso_date.specs.Proposal.{date, leapYear, monthLengths, isoDaysInMonth, dayFromMonth, isoDateToEpochDays, epochDays, epochDaysToISODate, isValidISODate, balancedYear, constrainISODate, clampTo, nsWithinLimits, momentWithinLimits, isoDateWithinLimits, noon, nsLimit}
-use Rattle.iso_date.specs.Paper.{monthLength, balanced, yearMonth, balanceYearMonth, dateToDay, dayToDate, regulateDate, makeDate, dateLimits, balanceDate}
+use Rattle.iso_date.specs.Proposal.{date, leapYear, monthLengths, isoDaysInMonth, dayFromMonth, isoDateToEpochDays, epochDays}
+use Rattle.iso_date.specs.Proposal.{epochDaysToISODate, isValidISODate, balancedYear, constrainISODate, clampTo, nsWithinLimits}
+use Rattle.iso_date.specs.Proposal.{momentWithinLimits, isoDateWithinLimits, noon, nsLimit}
+use Rattle.iso_date.specs.Paper.{monthLength, balanced, yearMonth, balanceYearMonth, dateToDay, dayToDate, regulateDate, makeDate}
+use Rattle.iso_date.specs.Paper.{dateLimits, balanceDate}
 use Rattle.iso_date.specs.Inner.{yearBias, monthBias, dayBias, Balances}
 use Rattle.iso_date.specs.declared.IsoDate.{IsoDate}
 use Rattle.options.specs.declared.Overflow.{Overflow}
@@ -351,14 +354,16 @@ module _ (d e : IsoDate) (o : Overflow) where
   pub make-out : (n : ℕ) → given e ≡ regulateDate d o → refused n ≡ dateLimits e → refused 2 ≡ makeDate d o
   make-out n h k = go (isoDateWithinLimits e) refl (k ∙ limits-said e (regulated-valid d e o h)) ∙ sym (made h)
     where
-      go : (t : Bool) → isoDateWithinLimits e ≡ t → refused n ≡ check (isoDateWithinLimits e) 2 (given (tt {0})) → refused 2 ≡ check (isoDateWithinLimits e) 2 (given e)
+      go : (t : Bool) → isoDateWithinLimits e ≡ t → refused n ≡ check (isoDateWithinLimits e) 2 (given (tt {0})) →
+          refused 2 ≡ check (isoDateWithinLimits e) 2 (given e)
       go true w l = never {A = Unit {0}} tt n (rw w at l)
       go false w l = rw w
 
   pub make-within : given e ≡ regulateDate d o → given tt ≡ dateLimits e → given e ≡ makeDate d o
   make-within h k = go (isoDateWithinLimits e) refl (k ∙ limits-said e (regulated-valid d e o h)) ∙ sym (made h)
     where
-      go : (t : Bool) → isoDateWithinLimits e ≡ t → given (tt {0}) ≡ check (isoDateWithinLimits e) 2 (given (tt {0})) → given e ≡ check (isoDateWithinLimits e) 2 (given e)
+      go : (t : Bool) → isoDateWithinLimits e ≡ t → given (tt {0}) ≡ check (isoDateWithinLimits e) 2 (given (tt {0})) →
+          given e ≡ check (isoDateWithinLimits e) 2 (given e)
       go true w l = rw w
       go false w l = never {A = Unit {0}} tt 2 (sym (rw w at l))
 

@@ -1,5 +1,4 @@
 -- Dates and day numbers: each valid date has a day number and each day number one valid date, for every whole number.
--- Assumes nothing.
 use Prim.Native.Nat.{ℕ, suc, _+_, _-_, _≤_, _<_}
 use native.Mathlib.Omega.{arith}
 use mathlib.Core.Path.{_≡_, sym, _∙_, ap, ap₂}
@@ -12,7 +11,9 @@ use Rattle.whole.specs.Whole.{_⊖_, fdiv, fmod}
 use Rattle.whole.proofs.Laws.{parts, whole, ints, read-add, read-neg, range-of, less-one}
 use Rattle.whole.proofs.Edges.{nat-of}
 use Rattle.whole.proofs.Tests.{both}
-use Rattle.iso_date.specs.Proposal.{date, dayFromYear, leapYear, monthLengths, isoDaysInMonth, daysBeforeMonth, dayFromMonth, isoDateToEpochDays, epochDays, yearFromDay, monthOf, dayOf, dateIn, epochDaysToISODate, isValidISODate}
+use Rattle.iso_date.specs.Proposal.{date, dayFromYear, leapYear, monthLengths, isoDaysInMonth, daysBeforeMonth, dayFromMonth}
+use Rattle.iso_date.specs.Proposal.{isoDateToEpochDays, epochDays, yearFromDay, monthOf, dayOf, dateIn, epochDaysToISODate}
+use Rattle.iso_date.specs.Proposal.{isValidISODate}
 use Rattle.iso_date.specs.Inner.{yearBias, dayBias, yearStart, YearHolds, MonthHolds}
 use Rattle.iso_date.proofs.Months.{Found, found, found-back, year-sum, twelve, month-within, month-found}
 use Rattle.iso_date.proofs.Years.{Holds, year-holds, year-unique, year-length, day-biased, in-biased-year}
@@ -98,7 +99,8 @@ date-of-day y i h =
 pub there-and-back : (y : ℤ) (m d : ℕ) → Valid y m d → epochDaysToISODate (epochDays (date y m d)) ≡ date y m d
 unfolding isoDaysInMonth daysBeforeMonth
 there-and-back y m d v =
-    let back = found-back (monthLengths (leapYear y)) (m - 1) d (rw (twelve (leapYear y)) (month-index m (v .month-low) (v .month-high))) (v .day-low) (v .day-high) in
+    let back = found-back (monthLengths (leapYear y)) (m - 1) d (rw (twelve (leapYear y)) (month-index m (v .month-low) (v .month-high))) (v .day-low)
+    (v .day-high) in
     let e : suc (m - 1) ≡ m = omega (arith, v .month-low) in
     ap epochDaysToISODate (day-in-year y m d (v .month-low) (v .month-high) (v .day-low)) ∙
     date-of-day y _ (in-year y m d v) ∙
@@ -131,7 +133,8 @@ module _ (n : ℤ) where
   within-year : dayOfYear < cond (leapYear year) 366 365
   within-year = distance n (dayFromYear year) (year-holds n .begun) .1 _ (rw (year-length year) at (year-holds n .not-over))
 
-  month-and-day : Found (monthLengths (leapYear year)) dayOfYear (monthOf (monthLengths (leapYear year)) dayOfYear) (dayOf (monthLengths (leapYear year)) dayOfYear)
+  month-and-day : Found (monthLengths (leapYear year)) dayOfYear (monthOf (monthLengths (leapYear year)) dayOfYear)
+      (dayOf (monthLengths (leapYear year)) dayOfYear)
   month-and-day = found (monthLengths (leapYear year)) dayOfYear (rw (year-sum (leapYear year)) within-year)
 
   found-valid : Valid year (monthOf (monthLengths (leapYear year)) dayOfYear) (dayOf (monthLengths (leapYear year)) dayOfYear)

@@ -1,5 +1,4 @@
 -- Months of a year: the month and the day that `monthOf` and `dayOf` find, for any list of lengths, and that they are the only ones.
--- Assumes nothing.
 use Prim.Native.Nat.{ℕ, zero, suc, _+_, _-_, _/_, _≤_, _<_}
 use native.Mathlib.Omega.{arith}
 use native.Mathlib.Numerals.{add-one}

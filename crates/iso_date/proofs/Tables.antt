@@ -1,5 +1,4 @@
 -- The two tables of the code hold what the list of the twelve lengths says, each shown once over its twelve places.
--- Assumes nothing.
 use Prim.Native.Nat.{ℕ, _+_, _*_, _≤_, _<_}
 use native.Mathlib.Omega.{arith}
 use borrow.Author.Tests.{ne-eqb, lt-ltb, le-ltb}

@@ -1,4 +1,4 @@
--- What holds of the calls on dates beyond their definitions, over every whole number. Assumes nothing.
+-- What holds of the calls on dates beyond their definitions, over every whole number.
 use native.Mathlib.Omega.{arith}
 use mathlib.Core.Path.{_≡_, ap}
 use mathlib.Core.Bool.{true}

@@ -1,5 +1,4 @@
 -- Years as naturals: a year is u ⊖ 400 k, its first day is yearStart u ⊖ (146097 k + 719528), and the year that holds a day is unique.
--- Assumes nothing.
 use Prim.Native.Nat.{ℕ, zero, suc, _+_, _-_, _*_, _/_, _%_, _^_, _≤_, _<_}
 use native.Mathlib.Nat.{add-zero, div-add-mod, mod-lt}
 use native.Mathlib.Omega.{arith}

@@ -6,7 +6,8 @@ use lib.IntN.{ℤ, pos, negℤ, _-ℤ_}
 use lib.Signed.{leZ}
 use Rattle.refusal.specs.Answer.{Answer, given, refused, check, andThen}
 use Rattle.whole.specs.Whole.{clampZ}
-use Rattle.iso_date.specs.Proposal.{epochDays, epochDaysToISODate, isValidISODate, isoDaysInMonth, isoDateToEpochDays, balancedYear, balancedMonth, constrainISODate, isoDateWithinLimits}
+use Rattle.iso_date.specs.Proposal.{epochDays, epochDaysToISODate, isValidISODate, isoDaysInMonth, isoDateToEpochDays, balancedYear}
+use Rattle.iso_date.specs.Proposal.{balancedMonth, constrainISODate, isoDateWithinLimits}
 use Rattle.iso_date.specs.declared.IsoDate.{IsoDate}
 use Rattle.iso_date.specs.declared.YearMonth.{YearMonth}
 use Rattle.options.specs.declared.Overflow.{Overflow}

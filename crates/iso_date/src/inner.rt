@@ -9,7 +9,8 @@ ghost use lib.ListN.{getD};
 ghost use mathlib.Core.Bool.{true};
 ghost use lib.IntN.{pos, negℤ, natAbs, _+ℤ_, _-ℤ_, _*ℤ_};
 ghost use Rattle.whole.specs.Whole.{_⊖_, fmod, clampZ};
-ghost use Rattle.iso_date.specs.Proposal.{leapYear, monthLengths, isoDaysInMonth, daysBeforeMonth, dayFromMonth, isValidISODate, epochDays, epochDaysToISODate, isoDateWithinLimits, balancedYear, clampTo};
+ghost use Rattle.iso_date.specs.Proposal.{leapYear, monthLengths, isoDaysInMonth, daysBeforeMonth, dayFromMonth, isValidISODate};
+ghost use Rattle.iso_date.specs.Proposal.{epochDays, epochDaysToISODate, isoDateWithinLimits, balancedYear, clampTo};
 ghost use Rattle.iso_date.specs.Paper.{ofDate, balanced, dayToDate, balanceDate};
 ghost use Rattle.iso_date.specs.Inner.{yearBias, monthBias, dayBias, yearStart, YearHolds, MonthHolds, Balances};
 

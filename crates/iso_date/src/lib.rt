@@ -5,7 +5,8 @@ use options::Overflow;
 ghost use mathlib.Core.Path.{_≡_};
 ghost use mathlib.Core.Bool.{true};
 ghost use Rattle.iso_date.specs.Proposal.{date, isValidISODate, constrainISODate};
-ghost use Rattle.iso_date.specs.Paper.{ofMonthLength, ofDay, ofDate, ofLimit, monthLength, dateToDay, dayToDate, balanceYearMonth, regulateDate, makeDate, dateLimits, balanceDate};
+ghost use Rattle.iso_date.specs.Paper.{ofMonthLength, ofDay, ofDate, ofLimit, monthLength, dateToDay, dayToDate, balanceYearMonth};
+ghost use Rattle.iso_date.specs.Paper.{regulateDate, makeDate, dateLimits, balanceDate};
 
 // A date's fields. Any numbers may stand in them; each call that takes a record checks it.
 pub struct IsoDate {

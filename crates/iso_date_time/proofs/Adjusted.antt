@@ -256,7 +256,15 @@ day-difference a b v w = in-some-direction a b go
         duration (directed f 0) (directed f 0) (directed f 0) (directed f (n - 7 * 0)) ≡ duration (pos 0) (pos 0) (pos 0) (y -ℤ x)
     days true x y n e = ap (duration (pos 0) (pos 0) (pos 0)) (omega (arith, ints, read-add x (pos n), read-neg x, read-add y (negℤ x)))
     days false x y n e =
-        ap (duration (pos 0) (pos 0) (pos 0)) (omega (arith, ints, read-neg (pos n), read-neg (pos (n - 7 * 0)), read-add x (negℤ (pos n)), read-neg x, read-add y (negℤ x)))
+        ap (duration (pos 0) (pos 0) (pos 0)) (omega (
+          arith,
+          ints,
+          read-neg (pos n),
+          read-neg (pos (n - 7 * 0)),
+          read-add x (negℤ (pos n)),
+          read-neg x,
+          read-add y (negℤ x),
+        ))
 
     go : (forward : Bool) (gap : ℕ) → placeOf b ≡ placeOf a +ℤ directed forward gap →
         calendarDateUntil a b U.Day ≡ duration (pos 0) (pos 0) (pos 0) (epochDays b -ℤ epochDays a)

@@ -55,7 +55,8 @@ moment-decides n ns small = together _ (momentWithinLimits n ns) there back
         let b : leZ n (pos 100000000) ≡ true = omega (arith, ints, d .1) in
         rw (a, b) (go (f .0) (leZ (negℤ (pos 100000000)) n) refl)
       where
-        go : ltZ (negℤ (pos nsLimit)) (pos nsPerDay *ℤ n +ℤ pos ns) ≡ true → (t : Bool) → leZ (negℤ (pos 100000000)) n ≡ t → (leZ (negℤ (pos 100000000)) n || ltb 0 ns) ≡ true
+        go : ltZ (negℤ (pos nsLimit)) (pos nsPerDay *ℤ n +ℤ pos ns) ≡ true → (t : Bool) → leZ (negℤ (pos 100000000)) n ≡ t →
+            (leZ (negℤ (pos 100000000)) n || ltb 0 ns) ≡ true
         go f true e = rw e
         go f false e = rw (e, lt-ltb 0 ns (omega (arith, ints, read-times nsPerDay n, read-add (pos nsPerDay *ℤ n) (pos ns))))
 

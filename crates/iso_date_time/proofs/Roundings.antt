@@ -1,4 +1,4 @@
--- How the answer of rounding a date and time comes out of its steps, one law for each way through the code. Assumes nothing.
+-- How the answer of rounding a date and time comes out of its steps, one law for each way through the code.
 use Prim.Native.Nat.{ℕ, _^_, _<_}
 use native.Mathlib.Omega.{arith}
 use mathlib.Core.Path.{_≡_, refl, sym, _∙_, ap}

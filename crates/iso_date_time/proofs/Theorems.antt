@@ -1,6 +1,6 @@
 -- What holds of the calls on dates with a time beyond their definitions: the difference of two records within the limits is always
 -- given, is exact in nanoseconds, has no part larger than the unit and never two directions; rounding does not meet the refusal of a
--- day count, and what it gives may stand. Assumes nothing.
+-- day count, and what it gives may stand.
 use Prim.Native.Nat.{ℕ, _+_, _*_, _/_, _%_, _≤_, _<_}
 use native.Mathlib.Omega.{arith}
 use mathlib.Core.Path.{_≡_, refl, sym, _∙_, ap}
@@ -30,7 +30,8 @@ use Rattle.options.specs.Units.{unitRank, nsPerDay}
 use Rattle.date_math.specs.Proposal.{directed}
 use Rattle.date_math.specs.Claims.{Ahead}
 use Rattle.date_math.proofs.Theorems.{parts-ahead}
-use Rattle.iso_date_time.specs.Proposal.{epochNanoseconds, isoDateTimeWithinLimits, roundISODateTime, movedDays, timeLeft, atLeastDay, belowDay, joined, differenceISODateTime}
+use Rattle.iso_date_time.specs.Proposal.{epochNanoseconds, isoDateTimeWithinLimits, roundISODateTime, movedDays, timeLeft, atLeastDay}
+use Rattle.iso_date_time.specs.Proposal.{belowDay, joined, differenceISODateTime}
 use Rattle.iso_date_time.specs.Paper.{dateTimeLimits, roundDateTime, dateTimeDifference}
 use Rattle.iso_date_time.specs.Inner.{Adjusts}
 use Rattle.iso_date_time.specs.Claims.{exactly, OneWay}
@@ -186,7 +187,8 @@ module _ (one two : IsoDateTime) (one-stands : dateTimeLimits one ≡ given tt) 
       let b : ℕ = nanoseconds (two .time) in
       let from = raised-is (epochDays (one .date)) dayBias (omega (arith, ints, fine-day one one-fine, read-diff 0 dayBias)) in
       let to = raised-is (epochDays (two .date)) dayBias (omega (arith, ints, fine-day two two-fine, read-diff 0 dayBias)) in
-      some-adjustment _ a _ b (below-day (one .time) (read-valid (one .time) (one-fine .time-valid))) (below-day (two .time) (read-valid (two .time) (two-fine .time-valid)))
+      some-adjustment _ a _ b (below-day (one .time) (read-valid (one .time) (one-fine .time-valid)))
+      (below-day (two .time) (read-valid (two .time) (two-fine .time-valid)))
       (λ day forward ns t. one-way unit _ day forward ns (placed one two one-fine two-fine _ a _ b day forward ns from to refl refl t))
 
 -- ---- rounding never refuses with 4, and what it gives may stand

@@ -13,7 +13,8 @@ use Rattle.iso_time.specs.Proposal.{isValidTime, balanceTime, validIncrement}
 use Rattle.iso_time.specs.Paper.{allBounded, isRoundingUnit}
 use Rattle.rounding.specs.declared.RoundingMode.{RoundingMode}
 use Rattle.options.specs.declared.Unit.{Unit as TemporalUnit}
-use Rattle.iso_date_time.specs.Proposal.{isoDateTimeWithinLimits, balanceISODateTime, roundISODateTime, differenceISODateTime, getISOPartsFromEpoch, withOffset}
+use Rattle.iso_date_time.specs.Proposal.{isoDateTimeWithinLimits, balanceISODateTime, roundISODateTime, differenceISODateTime}
+use Rattle.iso_date_time.specs.Proposal.{getISOPartsFromEpoch, withOffset}
 use Rattle.iso_date_time.specs.declared.IsoDateTime.{IsoDateTime}
 use Rattle.iso_date_time.specs.declared.InternalDurationRecord.{InternalDurationRecord}
 use Rattle.iso_date_time.specs.declared.DateTimeResult.{DateTimeResult}

@@ -1,6 +1,6 @@
--- What holds of times beyond the contracts. Assumes nothing.
-use Prim.Native.Nat.{ℕ, suc, _+_, _*_, _/_, _%_, _<_}
-use native.Mathlib.Nat.{mod-lt, div-add-mod, le-of-lt}
+-- What holds of times beyond the contracts.
+use Prim.Native.Nat.{ℕ, suc, _+_, _-_, _*_, _/_, _%_, _<_}
+use native.Mathlib.Nat.{mod-lt, div-add-mod}
 use native.Mathlib.Omega.{arith}
 use mathlib.Core.Path.{_≡_, sym, _∙_, ap}
 use mathlib.Core.Bool.{true, false}
@@ -13,14 +13,15 @@ use Rattle.rounding.specs.Proposal.{getUnsignedRoundingMode}
 use Rattle.rounding.specs.Inner.{roundedSize}
 use Rattle.rounding.specs.declared.RoundingMode.{RoundingMode}
 use Rattle.rounding.proofs.Rounds.{rounded-multiple, rounded-near}
-use Rattle.iso_time.specs.Proposal.{isValidTime, balanceTime, nanoseconds, nanosecondsUntil, inSeconds, differenceTime, quantity, unitLength, roundTime, validIncrement}
+use Rattle.iso_time.specs.Proposal.{isValidTime, balanceTime, nanoseconds, nanosecondsUntil, inSeconds, differenceTime}
+use Rattle.iso_time.specs.Proposal.{quantity, unitLength, roundTime, validIncrement}
 use Rattle.iso_time.specs.Paper.{isRoundingUnit}
 use Rattle.iso_time.specs.Claims.{exact, flat, nanosecondsOf, Parts, Near}
 use Rattle.iso_time.specs.declared.IsoTime.{IsoTime}
 use Rattle.iso_time.specs.declared.BalancedTime.{BalancedTime}
 use Rattle.iso_time.proofs.Times.{read-valid, show-valid, below-day, balance-exact, balance-valid, one-balanced}
 use Rattle.iso_time.proofs.Checks.{duration, length-some}
-use Rattle.iso_time.proofs.Rounding.{quantity-le, allowed, step-some, round-exact, round-valid, below-two}
+use Rattle.iso_time.proofs.Rounding.{quantity-le, step-some, step-most, round-exact, round-valid}
 
 -- ---- balancing is inverse to flattening
 
@@ -101,11 +102,13 @@ rounded-time-is-a-time t unit inc mode v usable ok =
     let some = length-some unit usable in
     let n = rounded-time-is-near t unit inc mode v usable ok in
     let w = round-valid t unit inc mode some ok in
-    let few =
-    below-two (nanoseconds t) (quantity unit t) (inc * unitLength unit) (n .rounded) (quantity-le unit t) (below-day t (read-valid t v)) (allowed unit inc some ok .1)
-    (le-of-lt (n .not-far-above)) in
-    (show-valid (roundTime t inc unit mode .time) w, days (roundTime t inc unit mode .days) (nanoseconds (roundTime t inc unit mode .time)) _ (below-day (roundTime t inc unit mode .time) w) few (n .larger-kept))
+    let b : BalancedTime = roundTime t inc unit mode in
+    let few : nanoseconds t - quantity unit t + n .rounded < nsPerDay + nsPerDay =
+    omega (arith, quantity-le unit t (read-valid t v) some, below-day t (read-valid t v), step-most unit inc some ok, n .not-far-above) in
+    (show-valid (b .time) w, days (b .days) (nanoseconds (b .time)) _ (below-day (b .time) w) few (n .larger-kept))
   where
     days : (d : ℤ) (k n : ℕ) → k < nsPerDay → n < nsPerDay + nsPerDay → pos nsPerDay *ℤ d +ℤ pos k ≡ pos n → (pos 0 ≤ℤ d) × (d ≤ℤ pos 1)
     days d k n h l e =
-        (omega (arith, ints, read-times nsPerDay d, read-add (pos nsPerDay *ℤ d) (pos k)), omega (arith, ints, read-times nsPerDay d, read-add (pos nsPerDay *ℤ d) (pos k)))
+        let m = read-times nsPerDay d in
+        let a = read-add (pos nsPerDay *ℤ d) (pos k) in
+        (omega (arith, ints), omega (arith, ints))

@@ -1,4 +1,4 @@
--- Times as one number: fields and nanoseconds, and the balance of six fields. Assumes nothing.
+-- Times as one number: fields and nanoseconds, and the balance of six fields.
 use Prim.Native.Nat.{ℕ, _+_, _*_, _/_, _%_, _≤_, _<_}
 use native.Mathlib.Nat.{mod-lt, div-add-mod}
 use native.Mathlib.Omega.{arith}
@@ -27,7 +27,9 @@ pub record Valid (t : IsoTime) : Type 0 where
   pub micros : t .microsecond ≤ 999
   pub nanos : t .nanosecond ≤ 999
 
-pub time-tests : (t : IsoTime) → (((((leb (t .hour) 23 && leb (t .minute) 59) && leb (t .second) 59) && leb (t .millisecond) 999) && leb (t .microsecond) 999) && leb (t .nanosecond) 999) ≡ isValidTime t
+pub time-tests : (t : IsoTime) →
+    (((((leb (t .hour) 23 && leb (t .minute) 59) && leb (t .second) 59) && leb (t .millisecond) 999) && leb (t .microsecond) 999) &&
+    leb (t .nanosecond) 999) ≡ isValidTime t
 unfolding isValidTime
 time-tests t = simp and-assoc
 
@@ -56,13 +58,14 @@ show-valid t v =
 
 pub below-day : (t : IsoTime) → Valid t → nanoseconds t < nsPerDay
 unfolding nanoseconds
-below-day t v = omega (arith, v .hours, v .minutes, v .seconds, v .millis, v .micros, v .nanos)
+below-day t v = omega arith
 
 -- ---- the time at a nanosecond of the day
 
 abbrev pub timeAt : ℕ → IsoTime
 timeAt n =
-    time (n / 1000 / 1000 / 1000 / 60 / 60) (n / 1000 / 1000 / 1000 / 60 % 60) (n / 1000 / 1000 / 1000 % 60) (n / 1000 / 1000 % 1000) (n / 1000 % 1000) (n % 1000)
+    time (n / 1000 / 1000 / 1000 / 60 / 60) (n / 1000 / 1000 / 1000 / 60 % 60) (n / 1000 / 1000 / 1000 % 60)
+    (n / 1000 / 1000 % 1000) (n / 1000 % 1000) (n % 1000)
 
 pub time-at-is : (n : ℕ) → n < nsPerDay → (nanoseconds (timeAt n) ≡ n) × (isValidTime (timeAt n) ≡ true)
 unfolding nanoseconds
@@ -83,11 +86,11 @@ time-back t v =
     let x3 : ℕ = t .hour * 3600 + (t .minute * 60 + t .second) in
     let x2 : ℕ = x3 * 1000 + t .millisecond in
     let x1 : ℕ = x2 * 1000 + t .microsecond in
-    let q1 = quotient 1000 (nanoseconds t) x1 (t .nanosecond) (omega (arith, v .nanos)) (omega arith) in
-    let q2 = quotient 1000 x1 x2 (t .microsecond) (omega (arith, v .micros)) (omega arith) in
-    let q3 = quotient 1000 x2 x3 (t .millisecond) (omega (arith, v .millis)) (omega arith) in
-    let q4 = quotient 60 x3 (t .hour * 60 + t .minute) (t .second) (omega (arith, v .seconds)) (omega arith) in
-    let q5 = quotient 60 (t .hour * 60 + t .minute) (t .hour) (t .minute) (omega (arith, v .minutes)) (omega arith) in
+    let q1 = quotient 1000 (nanoseconds t) x1 (t .nanosecond) (omega arith) (omega arith) in
+    let q2 = quotient 1000 x1 x2 (t .microsecond) (omega arith) (omega arith) in
+    let q3 = quotient 1000 x2 x3 (t .millisecond) (omega arith) (omega arith) in
+    let q4 = quotient 60 x3 (t .hour * 60 + t .minute) (t .second) (omega arith) (omega arith) in
+    let q5 = quotient 60 (t .hour * 60 + t .minute) (t .hour) (t .minute) (omega arith) (omega arith) in
     rw (q1 .0, q1 .1, q2 .0, q2 .1, q3 .0, q3 .1, q4 .0, q4 .1, q5 .0, q5 .1)
 
 -- ---- the balance of six fields, each raised by the same natural

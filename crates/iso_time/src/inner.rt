@@ -6,21 +6,26 @@ use options::Unit;
 use rounding::RoundingMode;
 ghost use mathlib.Core.Path.{_≡_};
 ghost use mathlib.Core.Bool.{true};
-ghost use Prim.Native.Nat.{_+_, _*_, _≤_, _<_};
-ghost use lib.IntN.{natAbs, pos, _-ℤ_};
+ghost use Prim.Native.Nat.{_≤_, _<_};
+ghost use lib.IntN.{pos, _-ℤ_};
 ghost use Rattle.whole.specs.Whole.{_⊖_};
-ghost use Rattle.options.specs.Units.{unitRank, nsPerDay};
-ghost use Rattle.iso_time.specs.Proposal.{isValidTime, balanceTime, nsFromMillisecond, nanoseconds, quantity, unitLength, validIncrement, roundTime, inSeconds};
-ghost use Rattle.iso_time.specs.Inner.{fieldBias, Carried, dividend};
+ghost use Rattle.options.specs.Units.{nsPerDay};
+ghost use Rattle.iso_time.specs.Proposal.{isValidTime, balanceTime, nanoseconds, quantity, unitLength};
+ghost use Rattle.iso_time.specs.Proposal.{validIncrement, roundTime, inSeconds};
+ghost use Rattle.iso_time.specs.Inner.{Within, AllWithin, fieldBias, Carried, dividend};
 
-// More than the bound of a field to be balanced, and divided by each of 1000, 60 and 24 as often as the carry meets them.
+// What a field to be balanced is raised by: more than its bound of 2^53 - 1, and such that whatever is divided on the way up is raised by
+// a multiple of the divisor. With B for it the quotients are raised by B / 1000 = 10_800_000_000_000,
+// (B + 10_800_000_000_000) / 1000 = 10_810_800_000_000, (B + 10_810_800_000_000) / 1000 = 10_810_810_800_000,
+// (B + 10_810_810_800_000) / 60 = 180_180_180_180_000 and (B + 180_180_180_180_000) / 60 = 183_003_003_003_000.
 const FIELD_BIAS: u64 = 10_800_000_000_000_000;
-// What the hours are raised by in the end, over 24.
+// What the days are raised by at last: (B + 183_003_003_003_000) / 24.
 const DAYS_BIAS: u64 = 457_625_125_125_125;
 
 const NS_PER_DAY: u64 = 86_400_000_000_000;
 
-// By rank, from year to nanosecond: a unit's length in nanoseconds, and how many of it make the next.
+// By rank, from year to nanosecond: a unit's length in nanoseconds, and how many of it make the next (a day: itself). 0 for those that a
+// time is not rounded to.
 const LENGTHS: [u64; 10] = [
     0,
     0,
@@ -34,11 +39,11 @@ const LENGTHS: [u64; 10] = [
     1,
 ];
 
-const DIVIDENDS: [u64; 10] = [0, 0, 0, 0, 24, 60, 60, 1000, 1000, 1000];
+const DIVIDENDS: [u64; 10] = [0, 0, 0, 1, 24, 60, 60, 1000, 1000, 1000];
 
 // A field to be balanced, as a natural.
 fn field_up(x: i64) -> u64
-    requires { ⌜ natAbs x ≤ 9007199254740991 ⌝ }
+    requires { ⌜ Within x ⌝ }
     ensures { λ r. ⌜ (x ≡ r ⊖ fieldBias) × (r < 20000000000000000) ⌝ }
 {
     whole::inner::raise(x, FIELD_BIAS)
@@ -84,7 +89,7 @@ pub fn balance(
     microsecond: i64,
     nanosecond: i64,
 ) -> BalancedTime
-    requires { ⌜ (natAbs hour ≤ 9007199254740991) × ((natAbs minute ≤ 9007199254740991) × ((natAbs second ≤ 9007199254740991) × ((natAbs millisecond ≤ 9007199254740991) × ((natAbs microsecond ≤ 9007199254740991) × (natAbs nanosecond ≤ 9007199254740991))))) ⌝ }
+    requires { ⌜ AllWithin hour minute second millisecond microsecond nanosecond ⌝ }
     ensures { λ r. ⌜ r ≡ balanceTime hour minute second millisecond microsecond nanosecond ⌝ }
 {
     let nanos = field_up(nanosecond);
@@ -106,42 +111,15 @@ pub fn balance(
     }
 }
 
-// The nanoseconds of the fields below the second.
-fn below_second(t: IsoTime) -> u64
-    requires { ⌜ isValidTime t ≡ true ⌝ }
-    ensures { λ r. ⌜ (r ≡ nsFromMillisecond t) × (r < 1000000000) ⌝ }
-{
-    (t.millisecond as u64 * 1000 + t.microsecond as u64) * 1000 + t.nanosecond as u64
-}
-
-// What is rounded at a unit: the nanoseconds of its field and all below it, for day and hour of the whole time.
-pub fn quantity_of(unit: Unit, t: IsoTime) -> u64
-    requires { ⌜ isValidTime t ≡ true ⌝ }
-    ensures { λ r. ⌜ r ≡ quantity unit t ⌝ }
-{
-    match unit {
-        Unit::Day => nanoseconds_of(t),
-        Unit::Hour => nanoseconds_of(t),
-        Unit::Minute => (t.minute as u64 * 60 + t.second as u64) * 1_000_000_000 + below_second(t),
-        Unit::Second => t.second as u64 * 1_000_000_000 + below_second(t),
-        Unit::Millisecond => below_second(t),
-        Unit::Microsecond => t.microsecond as u64 * 1000 + t.nanosecond as u64,
-        Unit::Nanosecond => t.nanosecond as u64,
-        Unit::Year => 0,
-        Unit::Month => 0,
-        Unit::Week => 0,
-    }
-}
-
 // The length of a unit in nanoseconds; 0 for those that a time is not rounded to.
 pub fn length_of(unit: Unit) -> u64
-    ensures { λ r. ⌜ (r ≡ unitLength unit) × (r ≤ nsPerDay) ⌝ }
+    ensures { λ r. ⌜ r ≡ unitLength unit ⌝ }
 {
     let place = unit.rank() as usize;
     LENGTHS[place]
 }
 
-// How many of a unit make the next; 0 for day and above.
+// How many of a unit make the next; for day 1, and 0 for those that a time is not rounded to.
 fn dividend_of(unit: Unit) -> u64
     ensures { λ r. ⌜ r ≡ dividend unit ⌝ }
 {
@@ -149,20 +127,23 @@ fn dividend_of(unit: Unit) -> u64
     DIVIDENDS[place]
 }
 
-// Whether an increment is allowed at a unit that a time can be rounded to: 1 for day, a proper divisor of how many make the next for
-// the others.
+// What is rounded at a unit: the nanoseconds past the last whole one of the next larger, for day and hour those since midnight.
+fn quantity_of(unit: Unit, t: IsoTime) -> u64
+    requires { ⌜ (isValidTime t ≡ true) × (0 < unitLength unit) ⌝ }
+    ensures { λ r. ⌜ (r ≡ quantity unit t) × (r ≤ nanoseconds t) ⌝ }
+{
+    nanoseconds_of(t) % (dividend_of(unit) * length_of(unit))
+}
+
+// Whether an increment is allowed at a unit: 1 for day, a proper divisor of how many make the next for the others.
 pub fn is_increment(unit: Unit, increment: u64) -> bool
-    requires { ⌜ 3 ≤ unitRank unit ⌝ }
     ensures { λ r. ⌜ r ≡ validIncrement unit increment ⌝ }
 {
     let whole = dividend_of(unit);
-    if whole == 0 {
+    if whole == 1 {
         return increment == 1;
     }
-    if increment == 0 {
-        return false;
-    }
-    if whole <= increment {
+    if (increment == 0) | (whole <= increment) {
         return false;
     }
     whole % increment == 0
@@ -180,20 +161,13 @@ pub fn round(t: IsoTime, unit: Unit, increment: u64, mode: RoundingMode) -> Bala
     carried(nanoseconds_of(t) - quantity + rounded)
 }
 
-// The day and the time of a number of nanoseconds below two days.
+// The days and the time of a number of nanoseconds.
 fn carried(n: u64) -> BalancedTime
-    requires { ⌜ n < nsPerDay + nsPerDay ⌝ }
     ensures { λ r. ⌜ Carried n r ⌝ }
 {
-    if n < NS_PER_DAY {
-        return BalancedTime {
-            days: 0,
-            time: time_at(n),
-        };
-    }
     BalancedTime {
-        days: 1,
-        time: time_at(n - NS_PER_DAY),
+        days: (n / NS_PER_DAY) as i64,
+        time: time_at(n % NS_PER_DAY),
     }
 }
 
@@ -202,16 +176,9 @@ pub fn span(one: u64, two: u64) -> TimeDuration
     requires { ⌜ (one < nsPerDay) × (two < nsPerDay) ⌝ }
     ensures { λ r. ⌜ r ≡ inSeconds (pos two -ℤ pos one) ⌝ }
 {
-    if one <= two {
-        let n = two - one;
-        return TimeDuration {
-            seconds: whole::inner::from_natural(n / 1_000_000_000),
-            nanoseconds: whole::inner::from_natural(n % 1_000_000_000),
-        };
-    }
-    let n = one - two;
+    let n = two as i64 - one as i64;
     TimeDuration {
-        seconds: whole::inner::negated(n / 1_000_000_000),
-        nanoseconds: whole::inner::negated(n % 1_000_000_000),
+        seconds: n / 1_000_000_000,
+        nanoseconds: n % 1_000_000_000,
     }
 }

@@ -7,7 +7,8 @@ use rounding::RoundingMode;
 ghost use mathlib.Core.Path.{_≡_};
 ghost use Prim.Native.Nat.{min};
 ghost use Rattle.iso_time.specs.Proposal.{time, isValidTime, constrainTime};
-ghost use Rattle.iso_time.specs.Paper.{ofTime, ofBalance, ofSpan, regulateTime, balanceTimeFields, timeDifference, roundedTime, bounded, allBounded};
+ghost use Rattle.iso_time.specs.Paper.{ofTime, ofBalance, ofSpan, bounded, allBounded};
+ghost use Rattle.iso_time.specs.Paper.{regulateTime, balanceTimeFields, timeDifference, roundedTime};
 
 // A time's fields. Any numbers may stand in them; each call that takes a record checks it.
 pub struct IsoTime {
@@ -79,10 +80,7 @@ fn constrain(t: IsoTime) -> IsoTime
 fn is_bounded(x: i64) -> bool
     ensures { λ r. ⌜ r ≡ bounded x ⌝ }
 {
-    if x < -MOST {
-        return false;
-    }
-    x <= MOST
+    (-MOST <= x) & (x <= MOST)
 }
 
 fn are_bounded(

@@ -1,5 +1,4 @@
 -- Reading a number: what one digit more does to a value, which texts are a natural in its shortest form, and what `-` before one says.
--- Assumes nothing.
 use Prim.Native.Nat.{ℕ, suc, _+_, _-_, _*_, _^_, _≤_, _<_}
 use native.Mathlib.Nat.{le-refl}
 use native.Mathlib.Numerals.{add-one}

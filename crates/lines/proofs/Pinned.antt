@@ -1,4 +1,4 @@
--- Two results that the contract of a reading function allows are one: each number has one way to be said. Assumes nothing.
+-- Two results that the contract of a reading function allows are one: each number has one way to be said.
 use mathlib.Core.Path.{_≡_, refl, sym, _∙_, ap}
 use lib.IntN.{pos, negsuc}
 use Rattle.lines.specs.Text.{Found, number, none}

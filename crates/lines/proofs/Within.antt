@@ -1,5 +1,4 @@
 -- Which numbers lie between two bounds, the lower one at most 0.
--- Assumes nothing.
 use Prim.Native.Nat.{ℕ, _≤_, _<_}
 use native.Mathlib.Omega.{arith}
 use mathlib.Core.Path.{_≡_, refl}

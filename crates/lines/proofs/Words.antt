@@ -1,5 +1,4 @@
 -- A word of a line, from a place of it on: what one byte more does to it, and where it and the rest of the line stand.
--- Assumes nothing.
 use Prim.Native.Nat.{ℕ, _+_, _-_, _≤_, _<_}
 use native.Mathlib.Numerals.{add-one}
 use native.Mathlib.Omega.{arith}

@@ -107,7 +107,8 @@ fn read_natural(text: &[u8]) -> Natural
 
 // The value of a text of digits alone, where it is below 2^64. Zeros before it do not matter here.
 fn digits_value(text: &[u8]) -> Natural
-    ensures { λ r. ⌜ ofNatural r ≡ cond (allDigits (now (text .entry)) && ltb (valueFrom 0 (now (text .entry))) (2 ^ 64)) (number (pos (valueFrom 0 (now (text .entry))))) none ⌝ }
+    ensures { λ r. ⌜ ofNatural r ≡ cond (allDigits (now (text .entry)) && ltb (valueFrom 0 (now (text .entry))) (2 ^ 64))
+        (number (pos (valueFrom 0 (now (text .entry))))) none ⌝ }
 {
     let mut value: u64 = 0;
     let mut at = 0;

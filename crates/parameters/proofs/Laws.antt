@@ -1,4 +1,4 @@
--- How the numbers of a request are found one after another, and what is known of each. Assumes nothing.
+-- How the numbers of a request are found one after another, and what is known of each.
 use Prim.Native.Nat.{ℕ, zero, suc, _+_, _-_, _^_, _≤_, _<_}
 use native.Mathlib.Omega.{arith}
 use native.Mathlib.Numerals.{add-one}
@@ -102,7 +102,8 @@ module _ (letters line : List ℕ) (from : ℕ) where
     pub no-number : isNumber x ≡ false → noArguments ≡ left 0 from
     no-number n = go x n so
       where
-        go : (y : Number) → isNumber y ≡ false → joined (cellNumbers (take k cells)) (also (ofNumber y) (left (k + 1) end)) ≡ left 0 from → noArguments ≡ left 0 from
+        go : (y : Number) → isNumber y ≡ false → joined (cellNumbers (take k cells)) (also (ofNumber y) (left (k + 1) end)) ≡ left 0 from →
+            noArguments ≡ left 0 from
         go N.Not m f = sym (joined-none (cellNumbers (take k cells)) (left (k + 1) end)) ∙ f
         go (N.Plus n) m f = clash true refl m
         go (N.Minus n) m f = clash true refl m
@@ -133,7 +134,8 @@ unfolding arguments Are
 are-those [] text zs e = tt
 are-those (k ∷ ks) [] zs e = let n : _≡_ {A = ℕ} 0 1 = cc in let f : ⊥ = omega arith in absurd f
 are-those (k ∷ ks) (b ∷ bs) zs e =
-    are-also k ks (within (k .low) (k .high) (numberOf (word bs))) (arguments ks (rest bs)) zs (λ z p. within-range (k .low) (k .high) z (numberOf (word bs)) p) (are-those ks (rest bs)) e
+    are-also k ks (within (k .low) (k .high) (numberOf (word bs))) (arguments ks (rest bs)) zs
+    (λ z p. within-range (k .low) (k .high) z (numberOf (word bs)) p) (are-those ks (rest bs)) e
 
 -- the first of the types, and those after them
 are-first : (m : ℕ) (ks : List Kind) (zs : List ℤ) → Are ks zs → Are (take m ks) zs
@@ -196,7 +198,8 @@ unfolding numbersIn
 reads-these count cells a e h l b = record { reads-as = e; count-fits = h; sized = l; others-blank = b; none-counted = λ f. clash true refl f }
 
 -- a number that is put into a cell leaves those behind it
-pub blank-more : (cells : List Cell) (k : ℕ) (c : Cell) → k < 24 → drop k cells ≡ replicate (24 - k) blank → drop (k + 1) (set cells k c) ≡ replicate (24 - (k + 1)) blank
+pub blank-more : (cells : List Cell) (k : ℕ) (c : Cell) → k < 24 → drop k cells ≡ replicate (24 - k) blank →
+    drop (k + 1) (set cells k c) ≡ replicate (24 - (k + 1)) blank
 blank-more cells k c h e =
     let f : 24 - k ≡ suc (24 - (k + 1)) = omega arith in
     drop-set-lt (k + 1) cells k c (omega arith) ∙ sym (drop-drop 1 k cells) ∙ ap (drop 1) (rw f at e)
@@ -250,7 +253,16 @@ same-taken {n} {m} v w = go (n .known) refl
 pub read-once : {n m : Numbers} {a : Arguments} → Reads n a → Reads m a → n ≡ m
 read-once {n} {m} v w =
     let t = same-taken v w in
-    let c : n .count ≡ m .count = omega (arith, ap length t, length-take (n .count) (n .cells), length-take (m .count) (m .cells), v .count-fits, w .count-fits, v .sized, w .sized) in
+    let c : n .count ≡ m .count = omega (
+      arith,
+      ap length t,
+      length-take (n .count) (n .cells),
+      length-take (m .count) (m .cells),
+      v .count-fits,
+      w .count-fits,
+      v .sized,
+      w .sized,
+    ) in
     let d : drop (n .count) (n .cells) ≡ drop (m .count) (m .cells) = v .others-blank ∙ ap (λ (k : ℕ). replicate (24 - k) blank) c ∙ sym (w .others-blank) in
     same-numbers n m (known-by (n .known) (m .known) _ _ (v .reads-as ∙ sym (w .reads-as)) .0) c
     (sym (take-append-drop (n .count) (n .cells)) ∙ ap₂ (λ (xs ys : List Cell). xs ++ ys) t d ∙ take-append-drop (m .count) (m .cells))

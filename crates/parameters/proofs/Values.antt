@@ -1,4 +1,4 @@
--- Values made of equal numbers, and choices by number. Assumes nothing.
+-- Values made of equal numbers, and choices by number.
 use Prim.Native.Nat.{ℕ}
 use mathlib.Core.Path.{_≡_}
 use mathlib.Core.Bool.{cond}

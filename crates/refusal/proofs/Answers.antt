@@ -1,4 +1,4 @@
--- What an answer tells of what went into it. Assumes nothing.
+-- What an answer tells of what went into it.
 use Prim.Native.Nat.{ℕ}
 use native.Mathlib.Omega.{arith}
 use mathlib.Core.Path.{_≡_, sym, _∙_, ap}

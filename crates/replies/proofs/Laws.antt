@@ -1,4 +1,4 @@
--- How a reply is put together. Assumes nothing.
+-- How a reply is put together.
 use Prim.Native.Nat.{ℕ, _+_, _≤_}
 use native.Mathlib.Omega.{arith}
 use mathlib.Core.Path.{_≡_}

@@ -37,7 +37,9 @@ ghost use Rattle.iso_date_time.specs.Paper.{ofDateTime, ofDifference};
 ghost use Rattle.iso_time.specs.Paper.{ofTime, ofBalance, ofSpan};
 ghost use Rattle.rounding.specs.Paper.{ofNumber};
 ghost use Rattle.writing.specs.Text.{spaced};
-ghost use Rattle.replies.specs.Replies.{Replied, shown, noValues, naturalValue, wholeValue, dateValues, yearMonthValues, timeValues, balancedValues, spanValues, durationValues, signNumber, signValue, dateTimeValues, recordValues};
+ghost use Rattle.replies.specs.Replies.{Replied, shown, noValues, naturalValue, wholeValue, dateValues, yearMonthValues, timeValues};
+ghost use Rattle.replies.specs.Replies.{balancedValues, spanValues, durationValues, signNumber, signValue, dateTimeValues};
+ghost use Rattle.replies.specs.Replies.{recordValues};
 
 pub fn length_reply(out: &mut [u8], at: usize, r: MonthLengthResult) -> usize
     requires { ⌜ at + 255 ≤ length (now out) ⌝ }

@@ -1,4 +1,4 @@
--- The table of the calls: which name and letters stand at a place, which call a name is, and what answers a line then. Assumes nothing.
+-- The table of the calls: which name and letters stand at a place, which call a name is, and what answers a line then.
 use Prim.Native.Nat.{ℕ, zero, suc, _+_, _*_, _≤_, _<_}
 use native.Mathlib.Numerals.{add-one}
 use native.Mathlib.Omega.{arith}
@@ -82,7 +82,8 @@ module _ (table : List ℕ) (s : Spells table) (place : ℕ) (known : place < le
   pub letters-there : lettersKinds (word (drop start table)) ≡ getD calls place noRow .takes
   letters-there =
       let e : nameRoom + rowRoom * place ≡ start = omega arith in
-      ap (λ (k : ℕ). lettersKinds (word (drop k table))) (sym e) ∙ ap (λ (l : List ℕ). lettersKinds (word l)) (sym (drop-drop (rowRoom * place) nameRoom table)) ∙
+      ap (λ (k : ℕ). lettersKinds (word (drop k table))) (sym e) ∙ ap (λ (l : List ℕ). lettersKinds (word l))
+      (sym (drop-drop (rowRoom * place) nameRoom table)) ∙
       ap lettersKinds (sym (column-at (length calls) place (drop nameRoom table) known)) ∙ kinds-at (column (length calls) (drop nameRoom table)) place ∙
       ap (λ (l : List (List Kind)). getD l place []) (s .letters) ∙ taken-at calls place
 
@@ -100,19 +101,24 @@ module _ (table name : List ℕ) (at : ℕ) (inside : at + length name < length 
     where
       space-there : name ≡ word (drop at table) → getD table (at + length name) 0 ≡ space
       space-there e =
-          let d : drop (at + length name) table ≡ rest (drop at table) = sym (drop-drop (length name) at table) ∙ ap (λ (k : ℕ). drop k (drop at table)) (ap length e) ∙ rest-start (drop at table) in
+          let d : drop (at + length name) table ≡ rest (drop at table) = sym (drop-drop (length name) at table) ∙
+          ap (λ (k : ℕ). drop k (drop at table)) (ap length e) ∙ rest-start (drop at table) in
           let l : 0 < length (rest (drop at table)) = omega (arith, ap length d, length-drop (at + length name) table) in
-          let f : getD table (at + length name + 0) 0 ≡ getD (rest (drop at table)) 0 0 = sym (getD-drop (at + length name) table 0 0) ∙ ap (λ (k : List ℕ). getD k 0 0) d in
+          let f : getD table (at + length name + 0) 0 ≡ getD (rest (drop at table)) 0 0 = sym (getD-drop (at + length name) table 0 0) ∙
+          ap (λ (k : List ℕ). getD k 0 0) d in
           let g : at + length name + 0 ≡ at + length name = omega arith in
           (rw g at f) ∙ rest-first (drop at table) l
 
-  pub same-there : (r : Bool) → getD table (at + length name) 0 ≡ space → (r ≡ true → name ≡ take (length name) (drop at table)) → (name ≡ take (length name) (drop at table) → r ≡ true) →
+  pub same-there : (r : Bool) → getD table (at + length name) 0 ≡ space → (r ≡ true → name ≡ take (length name) (drop at table)) →
+      (name ≡ take (length name) (drop at table) → r ≡ true) →
       r ≡ sameBytes name (word (drop at table))
   same-there r gap so back = go r refl
     where
       go : (t : Bool) → r ≡ t → r ≡ sameBytes name (word (drop at table))
-      go true e = e ∙ sym (same-yes name (word (drop at table)) (sym (word-of-start name (drop at table) plain (sym (so e)) (getD-drop at table (length name) 0 ∙ gap))))
-      go false e = e ∙ sym (same-no name (word (drop at table)) (λ f. clash r (back (f ∙ sym (word-start (drop at table)) ∙ ap (λ (k : ℕ). take k (drop at table)) (ap length (sym f)))) e))
+      go true e = e ∙ sym (same-yes name (word (drop at table)) (sym (word-of-start name (drop at table) plain (sym (so e))
+          (getD-drop at table (length name) 0 ∙ gap))))
+      go false e = e ∙ sym (same-no name (word (drop at table))
+          (λ f. clash r (back (f ∙ sym (word-start (drop at table)) ∙ ap (λ (k : ℕ). take k (drop at table)) (ap length (sym f)))) e))
 
 -- ---- the place of a name among the rows
 
@@ -161,7 +167,8 @@ long-name name h = short-names calls name refl h
 
 -- ---- what answers a line
 
-reply-by : (t : Bool) (r : Row) (rs : List Row) (line : List ℕ) (n : ℕ) → (n < length rs → replyBy rs line ≡ replyWith (getD rs n noRow .answers) (arguments (getD rs n noRow .takes) (rest line))) →
+reply-by : (t : Bool) (r : Row) (rs : List Row) (line : List ℕ) (n : ℕ) → (n < length rs → replyBy rs line ≡ replyWith (getD rs n noRow .answers)
+    (arguments (getD rs n noRow .takes) (rest line))) →
     cond t 0 (suc n) < suc (length rs) →
     cond t (replyWith (r .answers) (arguments (r .takes) (rest line))) (replyBy rs line) ≡
     replyWith (getD (r ∷ rs) (cond t 0 (suc n)) noRow .answers) (arguments (getD (r ∷ rs) (cond t 0 (suc n)) noRow .takes) (rest line))
@@ -230,7 +237,8 @@ module _ {place k : ℕ} (is : place ≡ k) where
   pub ready-at : {n : Numbers} {at : ℕ} {out : List ℕ} → Ready (getD calls place noRow .takes) n at out → Ready (getD calls k noRow .takes) n at out
   ready-at h = rw is at h
 
-  pub answer-at : {before after : List ℕ} {at end : ℕ} (zs : List ℤ) → Replied before at (getD calls k noRow .answers zs) after end → Replied before at (getD calls place noRow .answers zs) after end
+  pub answer-at : {before after : List ℕ} {at end : ℕ} (zs : List ℤ) → Replied before at (getD calls k noRow .answers zs) after end →
+      Replied before at (getD calls place noRow .answers zs) after end
   answer-at zs h = rw is h
 
 -- a place that is none of the first n is past them

@@ -1,4 +1,4 @@
--- The rounder on sizes gives the proposal's numbers. Assumes nothing.
+-- The rounder on sizes gives the proposal's numbers.
 use Prim.Native.Nat.{ℕ, zero, suc, _+_, _-_, _*_, _/_, _%_, _^_, _≤_, _<_}
 use native.Mathlib.Nat.{div-mul-le-self, div-add-mod', mod-lt}
 use native.Mathlib.Omega.{arith}
@@ -15,7 +15,8 @@ use Rattle.refusal.specs.Answer.{given, refused, check}
 use Rattle.whole.specs.Whole.{_⊖_, fdiv, fmod}
 use Rattle.whole.proofs.Laws.{up, split, whole, ints, fdiv-unique, read-neg}
 use Rattle.whole.proofs.Tests.{clash}
-use Rattle.rounding.specs.Proposal.{getUnsignedRoundingMode, applyRule, applyUnsignedRoundingMode, roundQuotient, roundNumberToIncrement, roundNumberToIncrementAsIfPositive}
+use Rattle.rounding.specs.Proposal.{getUnsignedRoundingMode, applyRule, applyUnsignedRoundingMode, roundQuotient}
+use Rattle.rounding.specs.Proposal.{roundNumberToIncrement, roundNumberToIncrementAsIfPositive}
 use Rattle.rounding.specs.Paper.{inSigned64, rounded, roundNumber, roundNumberAsIfPositive}
 use Rattle.rounding.specs.Inner.{modeRow, signColumn, upBy, takesUp, sized, roundedSize, roundedBelow, AtMost, positiveSize, negativeSize}
 use Rattle.rounding.specs.declared.RoundingMode.{RoundingMode}
@@ -117,7 +118,8 @@ module _ (r1 : ℤ) (d1 d2 : ℕ) where
   by-rule : (rule : UnsignedRoundingMode) → applyRule rule r1 d1 d2 ≡ chosen (upBy rule odd d1 d2)
   by-rule rule =
       ⊎-elim (λ h. nearer-lower h rule (eqb (fmod r1 2) 0) refl)
-      (λ h. ⊎-elim (λ k. nearer-upper k rule (eqb (fmod r1 2) 0) refl) (λ k. let e : d1 ≡ d2 = omega arith in at-middle e rule (eqb (fmod r1 2) 0) refl) (split d2 d1))
+      (λ h. ⊎-elim (λ k. nearer-upper k rule (eqb (fmod r1 2) 0) refl) (λ k. let e : d1 ≡ d2 = omega arith in
+      at-middle e rule (eqb (fmod r1 2) 0) refl) (split d2 d1))
       (split d1 d2)
 
   pub applied : (rule : UnsignedRoundingMode) → applyUnsignedRoundingMode rule r1 d1 d2 ≡ chosen (takesUp rule odd d1 d2)
@@ -160,8 +162,13 @@ module _ (m step : ℕ) (rule : UnsignedRoundingMode) (p : 0 < step) where
   size-quotient : (q : ℕ) × ((roundQuotient (pos m) step rule ≡ pos q) × (q * step ≡ roundedSize m step rule))
   unfolding roundQuotient roundedSize fdiv fmod
   size-quotient =
-      let t : Bool = takesUp rule (eqb (m / step % 2) 1) (m - m / step * step) (step - (m - m / step * step)) in
-      (m / step + cond t 1 0, (rw (applied (pos (m / step)) (m % step) (step - m % step) rule, odd-two (m / step), ← left-is m step p) refl, up-times (m / step) step t))
+      let t : Bool = takesUp rule (eqb (m / step % 2) 1) (m - m / step * step) (step - (m - m / step * step)) in (
+        m / step + cond t 1 0,
+        (
+          rw (applied (pos (m / step)) (m % step) (step - m % step) rule, odd-two (m / step), ← left-is m step p) refl,
+          up-times (m / step) step t,
+        ),
+      )
 
   -- what comes out is a multiple of the step
   pub rounded-multiple : (q : ℕ) × (q * step ≡ roundedSize m step rule)
@@ -350,19 +357,23 @@ module _ (x : ℤ) (step : ℕ) (mode : RoundingMode) (rule : UnsignedRoundingMo
   checked : (z : ℤ) → rounded step z ≡ check (inSigned64 z) 7 (given z)
   checked z = rw (lt-ltb 0 step step-some)
 
-  pub round-above : rule ≡ getUnsignedRoundingMode mode false → x ≡ pos m → positiveSize (sized (roundedSize m step rule) (2 ^ 63 - 1)) ≡ roundNumber x step mode
+  pub round-above : rule ≡ getUnsignedRoundingMode mode false → x ≡ pos m → positiveSize (sized (roundedSize m step rule) (2 ^ 63 - 1)) ≡ roundNumber
+      x step mode
   unfolding roundNumber
   round-above r e = rw (e, number-above m step mode step-some, r) (in-above _ ∙ sym (checked _))
 
-  pub round-below : rule ≡ getUnsignedRoundingMode mode true → x ≡ negℤ (pos m) → 1 ≤ m → negativeSize (sized (roundedSize m step rule) (2 ^ 63)) ≡ roundNumber x step mode
+  pub round-below : rule ≡ getUnsignedRoundingMode mode true → x ≡ negℤ (pos m) → 1 ≤ m → negativeSize (sized (roundedSize m step rule) (2 ^ 63)) ≡
+      roundNumber x step mode
   unfolding roundNumber
   round-below r e h = rw (e, number-below m step mode step-some h, r) (in-below _ ∙ sym (checked _))
 
-  pub round-above-as-if : rule ≡ getUnsignedRoundingMode mode false → x ≡ pos m → positiveSize (sized (roundedSize m step rule) (2 ^ 63 - 1)) ≡ roundNumberAsIfPositive x step mode
+  pub round-above-as-if : rule ≡ getUnsignedRoundingMode mode false → x ≡ pos m → positiveSize (sized (roundedSize m step rule) (2 ^ 63 - 1)) ≡
+      roundNumberAsIfPositive x step mode
   unfolding roundNumberAsIfPositive roundNumberToIncrementAsIfPositive
   round-above-as-if r e = rw (e, ← r, positive-round m step rule step-some) (in-above _ ∙ sym (checked _))
 
-  pub round-below-as-if : rule ≡ getUnsignedRoundingMode mode false → x ≡ negℤ (pos m) → negativeSize (sized (roundedBelow m step rule) (2 ^ 63)) ≡ roundNumberAsIfPositive x step mode
+  pub round-below-as-if : rule ≡ getUnsignedRoundingMode mode false → x ≡ negℤ (pos m) → negativeSize (sized (roundedBelow m step rule) (2 ^ 63)) ≡
+      roundNumberAsIfPositive x step mode
   unfolding roundNumberAsIfPositive roundNumberToIncrementAsIfPositive
   round-below-as-if r e = rw (e, ← r, below-round m step rule step-some) (in-below _ ∙ sym (checked _))
 

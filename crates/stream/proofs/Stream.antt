@@ -1,5 +1,5 @@
 -- An input of lines: the answers do not depend on how its bytes are cut into parts, what one byte does to them, and that the parts
--- together are answered as the whole. Assumes nothing.
+-- together are answered as the whole.
 use Prim.Native.Nat.{ℕ, suc, _+_, _-_, _≤_, _<_}
 use native.Mathlib.Omega.{arith}
 use native.Mathlib.Numerals.{add-one}
@@ -17,7 +17,8 @@ use Rattle.lines.specs.Text.{newline}
 use Rattle.writing.specs.Wrote.{Wrote}
 use Rattle.writing.proofs.Writing.{after, nothing, wrote-once}
 use Rattle.requests.specs.Requests.{replyTo, responseTo, question, lineRoom}
-use Rattle.stream.specs.Stream.{answered, pendingAfter, lastAnswer, outputOf, responseRoom, Kept, kept, keptWith, keptAfter, Holds, Inside, Roomy, Stops, Took, Taken, begun, more}
+use Rattle.stream.specs.Stream.{answered, pendingAfter, lastAnswer, outputOf, responseRoom, Kept, kept, keptWith, keptAfter, Holds}
+use Rattle.stream.specs.Stream.{Inside, Roomy, Stops, Took, Taken, begun, more}
 use Rattle.stream.specs.declared.inner.Progress.{Progress}
 
 -- ---- bytes in two parts
@@ -36,7 +37,8 @@ answered-append p (b ∷ xs) ys = answered-by (eqb b newline) p b xs ys (λ q. a
 
 pending-by : (t : Bool) (p : List ℕ) (b : ℕ) (xs ys : List ℕ) →
     ((q : List ℕ) → pendingAfter q (xs ++ ys) ≡ pendingAfter (pendingAfter q xs) ys) →
-    cond t (pendingAfter [] (xs ++ ys)) (pendingAfter (p ++ (b ∷ [])) (xs ++ ys)) ≡ pendingAfter (cond t (pendingAfter [] xs) (pendingAfter (p ++ (b ∷ [])) xs)) ys
+    cond t (pendingAfter [] (xs ++ ys)) (pendingAfter (p ++ (b ∷ [])) (xs ++ ys)) ≡ pendingAfter
+    (cond t (pendingAfter [] xs) (pendingAfter (p ++ (b ∷ [])) xs)) ys
 pending-by true p b xs ys h = h []
 pending-by false p b xs ys h = h (p ++ (b ∷ []))
 
@@ -46,7 +48,8 @@ pendingAfter-append p [] ys = refl
 pendingAfter-append p (b ∷ xs) ys = pending-by (eqb b newline) p b xs ys (λ q. pendingAfter-append q xs ys)
 
 -- so an input may be read in any parts
-pub output-parts : (xs ys : List ℕ) → outputOf (xs ++ ys) ≡ answered [] xs ++ (answered (pendingAfter [] xs) ys ++ lastAnswer (pendingAfter (pendingAfter [] xs) ys))
+pub output-parts : (xs ys : List ℕ) → outputOf (xs ++ ys) ≡ answered [] xs ++ (answered (pendingAfter [] xs) ys ++ lastAnswer
+    (pendingAfter (pendingAfter [] xs) ys))
 output-parts xs ys = rw (answered-append [] xs ys, pendingAfter-append [] xs ys, append-assoc)
 
 -- ---- a part of a block: nothing, one byte, two parts
@@ -180,9 +183,11 @@ module _ {block line out : List ℕ} {s : Progress} (w : Inside block line out s
       Holds (pendingAfter p (slice (s .at) (m .at) block)) (kept line′ (m .have) (m .over))
   held {p = p} v h = rw (v .keeps) (holds-after _ (kept line (s .have) (s .over)) p (record { long = w .line-sized; some = w .have-inside }) h)
 
-  pub took-more : {line′ out′ line″ out″ : List ℕ} {m r : Progress} → Took block line out s line′ out′ m → Took block line′ out′ m line″ out″ r → Took block line out s line″ out″ r
+  pub took-more : {line′ out′ line″ out″ : List ℕ} {m r : Progress} → Took block line out s line′ out′ m → Took block line′ out′ m line″ out″ r →
+      Took block line out s line″ out″ r
   took-more {line′} {out′} {line″} {out″} {m} {r} v x =
-      let e : slice (s .at) (r .at) block ≡ slice (s .at) (m .at) block ++ slice (m .at) (r .at) block = slice-add block (s .at) (m .at) (r .at) (v .onward) (x .onward) (v .inside .at-inside) in
+      let e : slice (s .at) (r .at) block ≡ slice (s .at) (m .at) block ++ slice (m .at) (r .at) block =
+      slice-add block (s .at) (m .at) (r .at) (v .onward) (x .onward) (v .inside .at-inside) in
       record {
         onward = omega (arith, v .onward, x .onward);
         inside = x .inside;
@@ -195,12 +200,14 @@ module _ {block line out : List ℕ} {s : Progress} (w : Inside block line out s
             ⊎-elim
             (λ (d : n < m .at). v .roomy p h n l d)
             (λ (d : m .at ≤ n).
-            let f : slice (s .at) n block ≡ slice (s .at) (m .at) block ++ slice (m .at) n block = slice-add block (s .at) (m .at) n (v .onward) d (v .inside .at-inside) in
+            let f : slice (s .at) n block ≡ slice (s .at) (m .at) block ++ slice (m .at) n block =
+            slice-add block (s .at) (m .at) n (v .onward) d (v .inside .at-inside) in
             rw (f, answered-append p, length-append) (omega (arith, v .wrote p h .ends, v .wrote p h .sized, x .roomy _ (held v h) n d u)))
             (split n (m .at));
       }
 
-module _ {block line out : List ℕ} {s : Progress} (w : Inside block line out s) (inside : s .at < length block) (room : s .filled + responseRoom ≤ length out) where
+module _ {block line out : List ℕ} {s : Progress} (w : Inside block line out s) (inside : s .at < length block)
+    (room : s .filled + responseRoom ≤ length out) where
   roomy-one : (p : List ℕ) → Roomy p block out s (s .at + 1)
   unfolding answered
   roomy-one p m l u = let e : m ≡ s .at = omega arith in rw (e, slice-empty (s .at) block) (omega arith)
@@ -253,7 +260,8 @@ module _ {block line out : List ℕ} {s : Progress} where
   filled-as v = v .wrote _ (holds-pending (kept line (s .have) (s .over))) .ends
 
   -- with room at first and a byte to take, one is taken
-  pub moves : {line′ out′ : List ℕ} {r : Progress} → Took block line out s line′ out′ r → Stops block out r → s .at < length block → s .filled + responseRoom ≤ length out → s .at < r .at
+  pub moves : {line′ out′ : List ℕ} {r : Progress} → Took block line out s line′ out′ r → Stops block out r → s .at < length block →
+      s .filled + responseRoom ≤ length out → s .at < r .at
   unfolding answered
   moves {r = r} v stops l room =
       ⊎-elim
@@ -265,7 +273,8 @@ module _ {block line out : List ℕ} {s : Progress} where
       absurd f)
       (split (s .at) (r .at))
 
-  not-later : {line′ out′ line″ out″ : List ℕ} {r t : Progress} → Took block line out s line′ out′ r → Stops block out r → Took block line out s line″ out″ t → t .at ≤ r .at
+  not-later : {line′ out′ line″ out″ : List ℕ} {r t : Progress} → Took block line out s line′ out′ r → Stops block out r →
+      Took block line out s line″ out″ t → t .at ≤ r .at
   not-later {r = r} {t = t} v stops x =
       ⊎-elim
       (λ (d : r .at < t .at).
@@ -277,7 +286,8 @@ module _ {block line out : List ℕ} {s : Progress} where
       (split (r .at) (t .at))
 
   -- two results that the contract of `take_lines` allows are one
-  pub took-once : {line′ out′ line″ out″ : List ℕ} {r t : Progress} → Took block line out s line′ out′ r → Stops block out r → Took block line out s line″ out″ t → Stops block out t →
+  pub took-once : {line′ out′ line″ out″ : List ℕ} {r t : Progress} → Took block line out s line′ out′ r → Stops block out r →
+      Took block line out s line″ out″ t → Stops block out t →
       (r ≡ t) × ((line′ ≡ line″) × (out′ ≡ out″))
   took-once {line′} {out′} {line″} {out″} {r} {t} v stops x halts =
       let e : r .at ≡ t .at = omega (arith, not-later v stops x, not-later x halts v) in
@@ -294,8 +304,10 @@ module _ {block line out : List ℕ} {s : Progress} where
 
 -- ---- the parts of a block together
 
-pub kept-more : (block : List ℕ) (from to : ℕ) (k : Kept) → from ≤ to → from ≤ length block → keptAfter (keptAfter k (take from block)) (slice from to block) ≡ keptAfter k (take to block)
-kept-more block from to k h l = sym (ap (keptAfter k) (slice-add block 0 from to (omega arith) h l) ∙ keptAfter-append k (take from block) (slice from to block))
+pub kept-more : (block : List ℕ) (from to : ℕ) (k : Kept) → from ≤ to → from ≤ length block →
+    keptAfter (keptAfter k (take from block)) (slice from to block) ≡ keptAfter k (take to block)
+kept-more block from to k h l = sym (ap (keptAfter k) (slice-add block 0 from to (omega arith) h l) ∙
+    keptAfter-append k (take from block) (slice from to block))
 
 pub kept-all : (block : List ℕ) (to : ℕ) (k : Kept) → length block ≤ to → keptAfter k (take to block) ≡ keptAfter k block
 kept-all block to k h = ap (keptAfter k) (take-all to block h)

@@ -89,4 +89,5 @@ pub record Took (block line out : List ℕ) (s : Progress) (line′ out′ : Lis
 pub data Taken : List ℕ → List ℕ → Kept → Type 0 where
   begun : (line : List ℕ) → Taken [] [] (kept line 0 false)
   more : {input output block line out line′ out′ : List ℕ} {s r : Progress} → Taken input output (kept line (s .have) (s .over)) → Inside block line out s →
-      Took block line out s line′ out′ r → Taken (input ++ slice (s .at) (r .at) block) (output ++ slice (s .filled) (r .filled) out′) (kept line′ (r .have) (r .over))
+      Took block line out s line′ out′ r → Taken (input ++ slice (s .at) (r .at) block) (output ++ slice (s .filled) (r .filled) out′)
+      (kept line′ (r .have) (r .over))

@@ -49,7 +49,8 @@ pub fn take_lines(
 pub fn end_input(table: &[u8], line: &[u8], out: &mut [u8], s: Progress) -> usize
     requires { ⌜ Spells (now table) × ((s .have ≤ length (now line)) × (s .filled + responseRoom ≤ length (now out))) ⌝ }
     ensures inside { λ r. ⌜ r ≤ length (now (out .entry)) ⌝ }
-    ensures wrote { λ r. ⌜ ((pending : List ℕ) → Holds pending (kept (now (line .entry)) (s .have) (s .over)) → Wrote (now (out .entry)) (s .filled) (lastAnswer pending) (now (out .exit)) r) ⌝ }
+    ensures wrote { λ r. ⌜ ((pending : List ℕ) → Holds pending (kept (now (line .entry)) (s .have) (s .over)) →
+        Wrote (now (out .entry)) (s .filled) (lastAnswer pending) (now (out .exit)) r) ⌝ }
 {
     if s.over {
         return end_line(table, line, out, s);
@@ -62,7 +63,8 @@ pub fn end_input(table: &[u8], line: &[u8], out: &mut [u8], s: Progress) -> usiz
 
 // Takes the next byte: a newline ends the line, which is answered; any other byte joins it.
 fn take_byte(table: &[u8], block: &[u8], line: &mut [u8], out: &mut [u8], s: Progress) -> Progress
-    requires { ⌜ Spells (now table) × (Inside (now block) (now line) (now out) s × ((s .at < length (now block)) × (s .filled + responseRoom ≤ length (now out)))) ⌝ }
+    requires { ⌜ Spells (now table) × (Inside (now block) (now line) (now out) s × ((s .at < length (now block)) ×
+        (s .filled + responseRoom ≤ length (now out)))) ⌝ }
     ensures { λ r. ⌜ (r .at ≡ s .at + 1) × Took (now (block .entry)) (now (line .entry)) (now (out .entry)) s (now (line .exit)) (now (out .exit)) r ⌝ }
 {
     let at = s.at;
@@ -99,7 +101,8 @@ fn take_byte(table: &[u8], block: &[u8], line: &mut [u8], out: &mut [u8], s: Pro
 fn end_line(table: &[u8], line: &[u8], out: &mut [u8], s: Progress) -> usize
     requires { ⌜ Spells (now table) × ((s .have ≤ length (now line)) × (s .filled + responseRoom ≤ length (now out))) ⌝ }
     ensures inside { λ r. ⌜ r ≤ length (now (out .entry)) ⌝ }
-    ensures wrote { λ r. ⌜ ((pending : List ℕ) → Holds pending (kept (now (line .entry)) (s .have) (s .over)) → Wrote (now (out .entry)) (s .filled) (responseTo pending) (now (out .exit)) r) ⌝ }
+    ensures wrote { λ r. ⌜ ((pending : List ℕ) → Holds pending (kept (now (line .entry)) (s .have) (s .over)) →
+        Wrote (now (out .entry)) (s .filled) (responseTo pending) (now (out .exit)) r) ⌝ }
 {
     if s.over {
         let end = put_byte(out, s.filled, b'?');

@@ -1,5 +1,4 @@
 -- What the functions of `inner` do to a number at the edge, over plain variables: each proof there cites these.
--- Assumes nothing.
 use Prim.Native.Nat.{ℕ, zero, suc, _+_, _-_, _≤_, _<_, _^_}
 use native.Mathlib.Numerals.{add-one}
 use native.Mathlib.Omega.{arith}

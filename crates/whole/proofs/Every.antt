@@ -1,5 +1,4 @@
 -- A rule of finitely many numbers, shown by one test that computes over all of them.
--- Assumes nothing.
 use Prim.Native.Nat.{ℕ, zero, suc, _<_, _≤_}
 use native.Mathlib.Omega.{arith}
 use mathlib.Core.Path.{_≡_, subst}

@@ -2,14 +2,14 @@
 --     simp (e, whole) (omega arith)     turns a statement over ℤ into one over ℕ, given e : z ≡ u ⊖ k for each variable z
 --     omega (arith, ints)               lets omega read and prove orders, equations and tests over ℤ as they stand
 -- A number z is taken apart into what is positive in it, `up z`, and what is negative, `dn z`: z is up z less dn z.
--- Assumes nothing.
 use Prim.Native.Nat.{ℕ, zero, suc, _+_, _-_, _*_, _/_, _%_, _^_, _≤_, _<_, min}
-use native.Mathlib.Nat.{add-zero, zero-add, div-add-mod, mod-lt, add-mul-div-left, add-mul-mod-self-left, mul-add-div, div-eq-of-lt, mul-add-mod-self-left, mod-eq-of-lt, le-div-iff-mul-le, div-mul-le-self}
+use native.Mathlib.Nat.{add-zero, zero-add, div-add-mod, mod-lt, add-mul-div-left, add-mul-mod-self-left, mul-add-div, div-eq-of-lt}
+use native.Mathlib.Nat.{mul-add-mod-self-left, mod-eq-of-lt, le-div-iff-mul-le, div-mul-le-self}
 use native.Mathlib.Omega.{arith}
 use mathlib.Core.Path.{_≡_, refl, sym, _∙_, ap, ap₂, subst}
 use mathlib.Core.Logic.{_⊎_, inl, inr, ⊎-elim, _↔_}
-use mathlib.Core.Bool.{Bool, true, false}
-use borrow.Author.Tests.{lt-ltb, le-ltb, le-leb, lt-leb, ltb-true, ltb-false}
+use mathlib.Core.Bool.{Bool, true, false, _&&_}
+use borrow.Author.Tests.{lt-ltb, le-ltb, le-leb, lt-leb, ltb-true, ltb-false, leb-true}
 use lib.Dec.{T, ltb, leb, leb→le, le→leb, ltb→lt, lt→ltb}
 use lib.IntN.{ℤ, pos, negsuc, negℤ, natAbs, _+ℤ_, _-ℤ_, _*ℤ_, +ℤ-comm, +ℤ-assoc}
 use lib.Signed.{ltZ, leZ, _≤ℤ_, _<ℤ_, mag, nonNeg}
@@ -18,7 +18,7 @@ use mir.Val.{SFits, toZ, ofZ, hbits}
 use mir.Facts.{toZ-ofZ}
 use lib.Pow.{pow-pos}
 use Rattle.whole.specs.Whole.{_⊖_, fdiv, fmod}
-use Rattle.whole.proofs.Tests.{alike}
+use Rattle.whole.proofs.Tests.{both, together}
 
 abbrev pub up : ℤ → ℕ
 up (pos n) = n
@@ -111,8 +111,10 @@ times-parts (negsuc a) (negsuc b) = of-pos (suc a * suc b) ∙ ⊖-same (suc a *
 moved : (u v a b p q c d : ℕ) → u + b ≡ v + a → p + d ≡ q + c → (u * p + v * q) + (a * d + b * c) ≡ (a * c + b * d) + (u * q + v * p)
 moved u v a b p q c d e f =
     ⊎-elim
-    (λ h. ⊎-elim (λ g. low-low (b - a) (d - c) (omega arith) (omega arith) (omega arith) (omega arith)) (λ g. low-high (b - a) (c - d) (omega arith) (omega arith) (omega arith) (omega arith)) (split c d))
-    (λ h. ⊎-elim (λ g. high-low (a - b) (d - c) (omega arith) (omega arith) (omega arith) (omega arith)) (λ g. high-high (a - b) (c - d) (omega arith) (omega arith) (omega arith) (omega arith)) (split c d))
+    (λ h. ⊎-elim (λ g. low-low (b - a) (d - c) (omega arith) (omega arith) (omega arith) (omega arith))
+    (λ g. low-high (b - a) (c - d) (omega arith) (omega arith) (omega arith) (omega arith)) (split c d))
+    (λ h. ⊎-elim (λ g. high-low (a - b) (d - c) (omega arith) (omega arith) (omega arith) (omega arith))
+    (λ g. high-high (a - b) (c - d) (omega arith) (omega arith) (omega arith) (omega arith)) (split c d))
     (split a b)
   where
     low-low : (k l : ℕ) → b ≡ a + k → v ≡ u + k → d ≡ c + l → q ≡ p + l → (u * p + v * q) + (a * d + b * c) ≡ (a * c + b * d) + (u * q + v * p)
@@ -221,7 +223,8 @@ fdiv-unique z (pos q) d r h e =
 fdiv-unique z (negsuc q) d r h e =
     let n : ℕ = d * suc q - suc r in
     let low : r < d * suc q = omega arith in
-    let s : z ≡ negsuc n = e ∙ ap₂ (λ (x y : ℤ). x +ℤ y) (neg-pos (d * suc q)) (of-pos r) ∙ ⊖-add 0 (d * suc q) r 0 ∙ ⊖-same (0 + r) (d * suc q + 0) r (d * suc q) (omega arith) ∙ ⊖-low r (d * suc q) low in
+    let s : z ≡ negsuc n = e ∙ ap₂ (λ (x y : ℤ). x +ℤ y) (neg-pos (d * suc q)) (of-pos r) ∙ ⊖-add 0 (d * suc q) r 0 ∙
+    ⊖-same (0 + r) (d * suc q + 0) r (d * suc q) (omega arith) ∙ ⊖-low r (d * suc q) low in
     let f = quotient d n q (d - suc r) (omega arith) (omega arith) in
     (ap (λ (y : ℤ). fdiv y d) s ∙ ap negsuc (f .0), ap (λ (y : ℤ). fmod y d) s ∙ (rw (f .1) (omega arith)))
 
@@ -368,9 +371,13 @@ pub natAbs-⊖ : (a b : ℕ) → natAbs (a ⊖ b) ≡ (a - b) + (b - a)
 natAbs-⊖ a b =
     ⊎-elim (λ h. rw (⊖-low a b h) (omega arith)) (λ h. rw (⊖-high a b h) (omega arith)) (split a b)
 
-pub ruleset whole = (add-zero, zero-add, neg-pos, of-pos, of-negsuc, ⊖-add, ⊖-neg, ⊖-times, fdiv-⊖, fmod-⊖, ltZ-⊖, leZ-⊖, nonNeg-⊖, natAbs-⊖, ⊖-eq, ⊖-le, ⊖-lt, ⊖-fits)
+pub ruleset sums = (add-zero, zero-add, neg-pos, of-pos, of-negsuc, ⊖-add, ⊖-neg, ⊖-times, fdiv-⊖, fmod-⊖)
 
-pub ruleset ints = (show-le-true, show-lt-true, show-le-false, show-lt-false, read-le, read-lt, show-le, show-lt, read-eq, show-eq, read-lt-true, read-lt-false, read-le-true, read-le-false, read-back)
+pub ruleset whole = (sums, ltZ-⊖, leZ-⊖, nonNeg-⊖, natAbs-⊖, ⊖-eq, ⊖-le, ⊖-lt, ⊖-fits)
+
+pub ruleset flags = (show-le-true, show-lt-true, show-le-false, show-lt-false, read-lt-true, read-lt-false, read-le-true, read-le-false)
+
+pub ruleset ints = (flags, read-le, read-lt, show-le, show-lt, read-eq, show-eq, read-back)
 
 -- ---- what they give
 
@@ -379,17 +386,20 @@ pub le-by-test : (p q x y : ℤ) → ltZ y x ≡ ltZ q p → p ≤ℤ q → x �
 le-by-test p q x y e h = let f : ltZ q p ≡ false = omega (arith, ints) in let g : ltZ y x ≡ false = e ∙ f in omega (arith, ints)
 
 -- a size within k is a number from -k to k
-module _ (z : ℤ) (k : ℕ) where
-  pub size-past : z <ℤ negℤ (pos k) → leb (natAbs z) k ≡ false
-  size-past h = lt-leb (natAbs z) k (omega (arith, ints, size-of z, range-of z, read-neg (pos k)))
-
-  pub size-decides : negℤ (pos k) ≤ℤ z → leZ z (pos k) ≡ leb (natAbs z) k
-  size-decides h =
-      let n = size-of z in
-      let r = range-of z in
-      let m = read-neg (pos k) in
-      alike (leZ z (pos k)) (leb (natAbs z) k) (λ e. le-leb (natAbs z) k (omega (arith, ints)))
-      (λ e. lt-leb (natAbs z) k (omega (arith, ints)))
+pub size-within : (z : ℤ) (k : ℕ) → (leZ (negℤ (pos k)) z && leZ z (pos k)) ≡ leb (natAbs z) k
+size-within z k =
+    let n = size-of z in
+    let r = range-of z in
+    let m = read-neg (pos k) in
+    let low = leZ (negℤ (pos k)) z in
+    let high = leZ z (pos k) in
+    together (low && high) (leb (natAbs z) k)
+    (λ e. le-leb (natAbs z) k (omega (arith, ints, both low high e .0, both low high e .1)))
+    (λ e.
+    let h = leb-true (natAbs z) k e in
+    let p : low ≡ true = omega (arith, ints) in
+    let q : high ≡ true = omega (arith, ints) in
+    rw (p, q))
 
 -- a multiple of d more: the quotient is so much more, and what it leaves stays
 pub fdiv-moved : (z k : ℤ) (d : ℕ) → 0 < d → (fdiv (z +ℤ pos d *ℤ k) d ≡ fdiv z d +ℤ k) × (fmod (z +ℤ pos d *ℤ k) d ≡ fmod z d)

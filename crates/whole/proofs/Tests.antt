@@ -1,4 +1,4 @@
--- Tests together. Assumes nothing.
+-- Tests together.
 use Prim.Native.Nat.{ℕ}
 use native.Mathlib.Omega.{arith}
 use mathlib.Core.Path.{_≡_, refl, sym, _∙_}

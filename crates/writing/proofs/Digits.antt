@@ -1,5 +1,4 @@
 -- The decimal digits of a number: one digit more, how many there are, and that the twenty of the definition are enough.
--- Assumes nothing.
 use Prim.Native.Nat.{ℕ, zero, suc, _+_, _/_, _%_, _^_, _≤_, _<_}
 use native.Mathlib.Omega.{arith}
 use mathlib.Core.Path.{_≡_, sym, ap, _∙_}
@@ -26,7 +25,8 @@ enough zero n h = one-digit 1 n (omega arith) ∙ sym (one-digit 0 n (omega arit
 enough (suc m) n h =
     ⊎-elim
     (λ l. one-digit (suc (suc m)) n l ∙ sym (one-digit (suc m) n l))
-    (λ l. more-digits (suc (suc m)) n l ∙ ap (λ (t : List ℕ). t ++ ((digitZero + n % 10) ∷ [])) (enough m (n / 10) (omega arith)) ∙ sym (more-digits (suc m) n l))
+    (λ l. more-digits (suc (suc m)) n l ∙ ap (λ (t : List ℕ). t ++ ((digitZero + n % 10) ∷ [])) (enough m (n / 10) (omega arith)) ∙
+    sym (more-digits (suc m) n l))
     (split n 10)
 
 pub last-digit : (n : ℕ) → n < 2 ^ 64 → 10 ≤ n → digits 20 n ≡ digits 20 (n / 10) ++ ((digitZero + n % 10) ∷ [])

@@ -1,5 +1,4 @@
 -- What is written is read back: the text of a number of 64 bits, with a sign or without, says that number.
--- Assumes nothing.
 use Prim.Native.Nat.{ℕ, zero, suc, _+_, _-_, _*_, _/_, _%_, _^_, _≤_, _<_, min}
 use native.Mathlib.Omega.{arith}
 use mathlib.Core.Path.{_≡_, refl, ap, _∙_}
@@ -60,7 +59,8 @@ first zero n h = rw (one-digit 0 n (omega arith)) (omega arith)
 first (suc m) n h =
     ⊎-elim
     (λ l. rw (one-digit (suc m) n l) (omega arith))
-    (λ l. rw (more-digits (suc m) n l, List·getD-append (digits (suc m) (n / 10)) _ 0 0 (some-digit m (n / 10))) (omega (arith, first m (n / 10) (omega arith))))
+    (λ l. rw (more-digits (suc m) n l, List·getD-append (digits (suc m) (n / 10)) _ 0 0 (some-digit m (n / 10)))
+    (omega (arith, first m (n / 10) (omega arith))))
     (split n 10)
 
 natural-back : (n : ℕ) → n < 2 ^ 64 → naturalOf (digits 20 n) ≡ number (pos n)

@@ -1,4 +1,4 @@
--- The text of a number and of several values, put together from what is written one after another. Assumes nothing.
+-- The text of a number and of several values, put together from what is written one after another.
 use Prim.Native.Nat.{ℕ, _+_}
 use native.Mathlib.Numerals.{add-one}
 use mathlib.Core.Path.{_≡_, refl, sym, ap, _∙_}

@@ -1,5 +1,4 @@
 -- Text in a buffer: a text put into its place byte by byte from its end, and one text written after another.
--- Assumes nothing.
 use Prim.Native.Nat.{ℕ, suc, _+_, _≤_, _<_}
 use native.Mathlib.Nat.{add-zero}
 use native.Mathlib.Omega.{arith}
@@ -17,15 +16,18 @@ pub placed-none : (l : List ℕ) (at : ℕ) → placed l at [] ≡ l
 placed-none l at = rw (add-zero at, take-append-drop)
 
 -- a store of the last byte leaves the others to place
-pub put-last : (l : List ℕ) (at : ℕ) (text : List ℕ) (b i : ℕ) → i ≡ at + length text → i < length l → placed (set l i b) at text ≡ placed l at (text ++ (b ∷ []))
+pub put-last : (l : List ℕ) (at : ℕ) (text : List ℕ) (b i : ℕ) → i ≡ at + length text → i < length l →
+    placed (set l i b) at text ≡ placed l at (text ++ (b ∷ []))
 put-last l at text b i e h =
     let low : at ≤ i = omega arith in
     let long : i < length (set l i b) = rw (length-set l i b) h in
     let f : at + length (text ++ (b ∷ [])) ≡ suc i = rw (length-append text (b ∷ [])) (omega arith) in
-    let here : drop (at + length text) (set l i b) ≡ b ∷ drop (at + length (text ++ (b ∷ []))) l = rw (← e, f, drop-cons (set l i b) i 0 long, getD-set-same l i b 0 h, drop-set-lt (suc i) l i b (omega arith)) in
+    let here : drop (at + length text) (set l i b) ≡ b ∷ drop (at + length (text ++ (b ∷ []))) l =
+    rw (← e, f, drop-cons (set l i b) i 0 long, getD-set-same l i b 0 h, drop-set-lt (suc i) l i b (omega arith)) in
     rw (take-set-le at l i b low, here, append-assoc)
 
-pub placed-wrote : (l l′ : List ℕ) (at : ℕ) (text : List ℕ) (end : ℕ) → at + length text ≤ length l → l′ ≡ placed l at text → end ≡ at + length text → Wrote l at text l′ end
+pub placed-wrote : (l l′ : List ℕ) (at : ℕ) (text : List ℕ) (end : ℕ) → at + length text ≤ length l → l′ ≡ placed l at text → end ≡ at + length text →
+    Wrote l at text l′ end
 placed-wrote l l′ at text end room e f =
     let n : length (take at l) ≡ at = length-take-le at l (omega arith) in
     let m : length (take at l ++ text) ≡ end = length-append (take at l) text ∙ ap (λ (k : ℕ). k + length text) n ∙ sym f in
@@ -49,7 +51,8 @@ after {a} {b} {c} {s} {t} {at} {m} {n} v w =
     record {
       ends = w .ends ∙ (simp length-append (omega (arith, v .ends)));
       holds = w .holds ∙ ap (λ (l : List ℕ). l ++ t) (v .holds) ∙ append-assoc (take at a) s t;
-      keeps = w .keeps ∙ ap (λ (k : ℕ). drop k b) (w .ends) ∙ sym (drop-drop (length t) m b) ∙ ap (drop (length t)) (v .keeps) ∙ drop-drop (length t) m a ∙ ap (λ (k : ℕ). drop k a) (sym (w .ends));
+      keeps = w .keeps ∙ ap (λ (k : ℕ). drop k b) (w .ends) ∙ sym (drop-drop (length t) m b) ∙ ap (drop (length t)) (v .keeps) ∙
+          drop-drop (length t) m a ∙ ap (λ (k : ℕ). drop k a) (sym (w .ends));
       sized = w .sized ∙ v .sized;
     }
 
@@ -65,7 +68,8 @@ pub wrote-as : {before after : List ℕ} {at end : ℕ} {a b : List ℕ} → Wro
 wrote-as h e = rw e at h
 
 -- two results that this allows are one
-pub wrote-once : {before text after after′ : List ℕ} {at end end′ : ℕ} → Wrote before at text after end → Wrote before at text after′ end′ → (after ≡ after′) × (end ≡ end′)
+pub wrote-once : {before text after after′ : List ℕ} {at end end′ : ℕ} → Wrote before at text after end → Wrote before at text after′ end′ →
+    (after ≡ after′) × (end ≡ end′)
 wrote-once {before} {text} {after} {after′} {at} {end} {end′} v w =
     let e : end ≡ end′ = v .ends ∙ sym (w .ends) in
     let h : take end after ≡ take end after′ = v .holds ∙ sym (rw (← e) at (w .holds)) in

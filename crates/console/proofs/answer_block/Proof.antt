@@ -41,7 +41,8 @@ loop-less c =
     let t = c .before .before .before .before .before .before .before in
     let l = t .before .before .before .before .before in
     let i = l .loop .inv .0 in
-    let on = moves (t .take-lines .ensures .0) (t .take-lines .ensures .1) (t .before .before .before .if1 .taken) (omega (arith, i .1 .1 .0, i .0 .1, l .before .before .before .before .before .pre .1 .1 .1)) in
+    let on = moves (t .take-lines .ensures .0) (t .take-lines .ensures .1) (t .before .before .before .if1 .taken)
+    (omega (arith, i .1 .1 .0, i .0 .1, l .before .before .before .before .before .pre .1 .1 .1)) in
     omega arith
 
 loop-again : tie.Need-loop-again Inv-loop μ-loop
@@ -50,7 +51,8 @@ loop-again c =
     let l = t .before .before .before .before .before in
     let e = t .take-lines .ensures .0 in (
       search needs,
-      e .keeps ∙ ap (λ (k : Kept). keptAfter k (slice (l .loop .state .at) (t .take-lines .result .at) (l .before .before .before .before .before .args .block .now))) (l .loop .inv .1) ∙
+      e .keeps ∙ ap (λ (k : Kept). keptAfter k (slice (l .loop .state .at) (t .take-lines .result .at)
+          (l .before .before .before .before .before .args .block .now))) (l .loop .inv .1) ∙
           kept-more _ _ _ _ (e .onward) (l .loop .inv .0 .1 .1 .1),
     )
 

@@ -1,4 +1,4 @@
--- The four tests.
+-- Each of the four parts is within its own bound.
 use borrow.Author.Needs.{needs}
 use mir.Facts.{toZ-ofZ}
 use Rattle.whole.proofs.Tests.{all-four}

@@ -1,4 +1,4 @@
--- The four tests.
+-- One of the four parts is above zero.
 use mir.Facts.{toZ-ofZ}
 use Rattle.date_duration.proofs.Durations.{above-tests}
 use Rattle.date_duration.proofs.any_above.Statement.{statement}

@@ -1,4 +1,4 @@
--- The four tests.
+-- One of the four parts is below zero.
 use mir.Facts.{toZ-ofZ}
 use Rattle.date_duration.proofs.Durations.{below-tests}
 use Rattle.date_duration.proofs.any_below.Statement.{statement}

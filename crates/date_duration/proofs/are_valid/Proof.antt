@@ -1,4 +1,4 @@
--- The bounds, and no parts of both signs.
+-- Every part is within its bound, and not one below zero stands beside one above it.
 use borrow.Author.Needs.{needs}
 use mir.Facts.{toZ-ofZ}
 use Rattle.date_duration.specs.Proposal.{isValidDuration}
@@ -10,7 +10,8 @@ unfolding isValidDuration
 returns c =
     let t = c .before .before in
     let f = t .before .fits in
-    rw (c .all-small .ensures, t .any-below .ensures, c .before .any-above .ensures, toZ-ofZ (f .years), toZ-ofZ (f .months), toZ-ofZ (f .weeks), toZ-ofZ (f .days))
+    rw (c .all-small .ensures, t .any-below .ensures, c .before .any-above .ensures)
+    (rw (toZ-ofZ (f .years), toZ-ofZ (f .months), toZ-ofZ (f .weeks), toZ-ofZ (f .days)))
 
 pub are-valid-spec : {M : Type 1} → statement M
 are-valid-spec =

@@ -1,21 +1,12 @@
--- Below the bound, or by the upper comparison.
-use native.Mathlib.Omega.{arith}
+-- The most days whose seconds are below 2^53, either way.
+use borrow.Author.Needs.{needs}
 use mir.Facts.{toZ-ofZ}
-use mathlib.Core.Path.{sym, _∙_}
-use Rattle.whole.proofs.Laws.{ints, size-past, size-decides}
 use Rattle.date_duration.proofs.Durations.{small-days-is}
 use Rattle.date_duration.proofs.is_small_in_days.Statement.{statement}
 use Rattle.date_duration.proofs.is_small_in_days.Tie as tie
 
 returns : tie.Need-returns
-returns c =
-    let x = c .before .args .x in
-    sym (size-past x 104249991374 (omega (arith, ints))) ∙ small-days-is x
-
-returns-2 : tie.Need-returns-2
-returns-2 c =
-    let s = c .before in
-    rw (toZ-ofZ (s .fits .x)) (size-decides (s .args .x) 104249991374 (omega (arith, ints)) ∙ small-days-is (s .args .x))
+returns c = rw (toZ-ofZ (c .fits .x)) (small-days-is (c .args .x))
 
 pub is-small-in-days-spec : {M : Type 1} → statement M
-is-small-in-days-spec = tie.close (tie.spec returns returns-2)
+is-small-in-days-spec = tie.close (tie.spec (λ c. search needs) returns)

@@ -1,4 +1,4 @@
--- Kept, or given.
+-- A kept part is the old one, a given one stands in its place.
 use borrow.Author.Needs.{needs}
 use mathlib.Core.Path.{_≡_}
 use mir.Facts.{toZ-ofZ}

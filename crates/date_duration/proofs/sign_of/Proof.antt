@@ -1,4 +1,4 @@
--- Below zero, zero, above.
+-- Below zero Negative, at zero Zero, and what is left is above.
 use native.Mathlib.Omega.{arith}
 use mathlib.Core.Path.{sym, _∙_, ap}
 use lib.IntN.{pos}

@@ -1,25 +1,19 @@
--- Below zero its size, else the number.
-use borrow.Author.Needs.{needs}
+-- A part below zero is turned, the others stay.
 use native.Mathlib.Omega.{arith}
-use mathlib.Core.Path.{sym, _∙_}
+use mathlib.Core.Path.{_∙_}
 use mir.Facts.{toZ-ofZ}
 use lib.IntN.{pos}
-use lib.Signed.{_≤ℤ_}
+use lib.Signed.{_≤ℤ_, _<ℤ_}
 use Rattle.whole.proofs.Laws.{ints}
-use Rattle.date_duration.proofs.Durations.{size-small, size-below, size-above}
+use Rattle.date_duration.proofs.Durations.{turn-fits, turn-is, size-below, size-above}
 use Rattle.date_duration.proofs.size.Statement.{statement}
 use Rattle.date_duration.proofs.size.Tie as tie
 
-from-natural-requires : tie.Need-from-natural-requires
-from-natural-requires c κs =
-    let s = c .before .before in
-    size-small _ _ (sym (toZ-ofZ (s .fits .x)) ∙ c .size-of-negative .ensures .0) (s .pre)
-
 returns : tie.Need-returns
 returns c =
-    let s = c .before .before .before in
-    toZ-ofZ (record { sfits = c .from-natural .ok }) ∙
-    size-below _ _ (sym (toZ-ofZ (s .fits .x)) ∙ c .before .size-of-negative .ensures .0) _ (c .from-natural .ensures)
+    let s = c .before in
+    let h : s .args .x <ℤ pos 0 = omega (arith, ints) in
+    turn-is (record { fits = s .fits .x; low = s .pre }) ∙ size-below (s .args .x) h
 
 returns-2 : tie.Need-returns-2
 returns-2 c =
@@ -28,4 +22,4 @@ returns-2 c =
     toZ-ofZ (s .fits .x) ∙ size-above (s .args .x) h
 
 pub size-spec : {M : Type 1} → statement M
-size-spec = tie.close (tie.spec (λ c κs. search needs) from-natural-requires returns returns-2)
+size-spec = tie.close (tie.spec (λ c. turn-fits (record { fits = c .before .fits .x; low = c .before .pre })) returns returns-2)

@@ -1,4 +1,4 @@
--- The six tests.
+-- Each of the six fields is within the bound.
 use borrow.Author.Needs.{needs}
 use mir.Facts.{toZ-ofZ}
 use Rattle.whole.proofs.Tests.{all-six}

@@ -18,13 +18,15 @@ returns-2 : tie.Need-returns-2
 returns-2 c =
     ap ofNatural (sym (c .enum-told .given .1)) ∙
     c .before .before .read-natural .ensures ∙
-    sym (number-plain (c .before .before .before .before .before .before .before .args .text .now) (c .before .before .before .before .before .if1 .left) (c .before .before .before .if2 .taken))
+    sym (number-plain (c .before .before .before .before .before .before .before .args .text .now)
+    (c .before .before .before .before .before .if1 .left) (c .before .before .before .if2 .taken))
 
 returns-3 : tie.Need-returns-3
 returns-3 c =
     ap ofNatural (sym (c .before .n .given .1)) ∙
     c .before .before .before .read-natural .ensures ∙
-    sym (number-plain (c .before .before .before .before .before .before .before .before .args .text .now) (c .before .before .before .before .before .before .if1 .left) (c .before .before .before .before .if2 .taken))
+    sym (number-plain (c .before .before .before .before .before .before .before .before .args .text .now)
+    (c .before .before .before .before .before .before .if1 .left) (c .before .before .before .before .if2 .taken))
 
 -- after `-`: the text, what is read of the rest of it, and what that says of the whole
 abbrev text : tie.After-read-natural2 → List ℕ
@@ -54,7 +56,8 @@ returns-6 c =
 returns-7 : tie.Need-returns-7
 returns-7 c =
     let d = c .before .before .before .before .before in
-    sym (signed d ∙ negative-some (drop 1 (text d)) _ (sym (rest d) ∙ ap ofNatural (c .before .before .before .size .given .1)) (c .before .if3 .left) (omega arith))
+    sym (signed d ∙ negative-some (drop 1 (text d)) _ (sym (rest d) ∙ ap ofNatural (c .before .before .before .size .given .1)) (c .before .if3 .left)
+    (omega arith))
 
 pub read-number-spec : {M : Type 1} → statement M
 read-number-spec =

@@ -16,7 +16,9 @@ use rounding::RoundingMode;
 ghost use mathlib.Core.Path.{_≡_};
 ghost use mathlib.Core.List.{[], _∷_};
 ghost use Rattle.parameters.specs.Meaning.{Holds, numbersIn, at};
-ghost use Rattle.parameters.specs.Parameters.{dateKinds, timeKinds, dateTimeKinds, durationKinds, choiceKinds, overflowKind, unitKind, modeKind, dateAt, timeAt, dateTimeAt, durationAt, partAt, overflowOf, unitOf, modeOf};
+ghost use Rattle.parameters.specs.Parameters.{dateKinds, timeKinds, dateTimeKinds, durationKinds, choiceKinds, overflowKind};
+ghost use Rattle.parameters.specs.Parameters.{unitKind, modeKind, dateAt, timeAt, dateTimeAt, durationAt, partAt, overflowOf, unitOf};
+ghost use Rattle.parameters.specs.Parameters.{modeOf};
 
 // The units and the modes by their numbers.
 const UNITS: [Unit; 10] = [

@@ -10,7 +10,11 @@ use Rattle.rounding.proofs.positive.Statement.{statement}
 use Rattle.rounding.proofs.positive.Tie as tie
 
 from-natural-requires : tie.Need-from-natural-requires
-from-natural-requires c κs = omega (arith, is-at-most (c .before .before .before .args .size) (c .before .size .given .0 .0) 9223372036854775807 (c .before .size .given .1) (c .before .before .before .pre))
+from-natural-requires c κs = omega (
+  arith,
+  is-at-most (c .before .before .before .args .size) (c .before .size .given .0 .0) 9223372036854775807
+      (c .before .size .given .1) (c .before .before .before .pre),
+)
 
 returns : tie.Need-returns
 returns c = ap given (toZ-ofZ (record { sfits = c .from-natural .ok }) ∙ c .from-natural .ensures) ∙ ap positiveSize (sym (c .before .before .size .given .1))

@@ -1,29 +1,30 @@
--- The duration is checked, then what comes out of it.
+-- The duration is checked first, then what comes out of it.
 use borrow.Author.Needs.{needs}
-use mathlib.Core.Path.{_≡_, sym, _∙_}
+use mathlib.Core.Path.{sym, _∙_}
 use borrow.Author.Tests.{not-true, not-false}
 use mir.Facts.{toZ-ofZ}
-use mir.Syntax.{w64}
-use mir.Val.{toZ, ofZ}
-use Rattle.date_duration.proofs.Durations.{adjust-refused, adjust-is}
+use Rattle.date_duration.specs.Proposal.{keptOr}
+use Rattle.date_duration.specs.Paper.{durationAdjust}
+use Rattle.date_duration.proofs.Durations.{part-is, adjust-is}
 use Rattle.date_duration.proofs.DateDuration.adjust.Statement.{statement}
 use Rattle.date_duration.proofs.DateDuration.adjust.Tie as tie
 
 returns : tie.Need-returns
-returns c = adjust-refused _ _ _ _ (sym (c .before .is-valid .ensures) ∙ not-true _ (c .if1 .taken))
+unfolding durationAdjust
+returns c = rw (sym (c .before .is-valid .ensures) ∙ not-true _ (c .if1 .taken))
 
 returns-2 : tie.Need-returns-2
 returns-2 c =
-    let s = c .before .before .before .before .before .before .before .before in
-    let d = s .args .self in
-    let back-years : toZ w64 (ofZ w64 (d .years)) ≡ d .years = toZ-ofZ (record { sfits = c .before .struct-told3 .given .0 .1 }) in
-    let back-months : toZ w64 (ofZ w64 (d .months)) ≡ d .months = toZ-ofZ (record { sfits = c .before .struct-told3 .given .1 .0 .1 }) in
-    let back-weeks : toZ w64 (ofZ w64 (d .weeks)) ≡ d .weeks = toZ-ofZ (record { sfits = c .before .struct-told3 .given .1 .1 .0 .1 }) in
-    let back-days : toZ w64 (ofZ w64 (d .days)) ≡ d .days = toZ-ofZ (record { sfits = c .before .struct-told3 .given .1 .1 .1 .0 .1 }) in
-    let m = toZ-ofZ (record { sfits = c .before .before .before .before .kept-or .ok }) ∙ rw back-months at (c .before .before .before .before .kept-or .ensures) in
-    let w = toZ-ofZ (record { sfits = c .before .before .kept-or2 .ok }) ∙ rw back-weeks at (c .before .before .kept-or2 .ensures) in
+    let k2 = c .before .before in
+    let k1 = k2 .before .before in
+    let v = k1 .before .before in
+    let s = v .before .before in
+    let a = s .args in
+    let g = c .before .struct-told3 .given in
     c .new .ensures ∙
-    adjust-is d _ _ _ _ _ _ _ (sym (c .before .before .before .before .before .before .before .is-valid .ensures) ∙ not-false _ (c .before .before .before .before .before .before .if1 .left)) back-years m w (toZ-ofZ (s .fits .days))
+    adjust-is (a .self) _ _ _ _ _ _ _ (sym (v .before .is-valid .ensures) ∙ not-false _ (v .if1 .left)) (toZ-ofZ (record { sfits = g .0 .1 }))
+    (part-is (keptOr (a .months)) (g .1 .0 .1) (k1 .kept-or .ok) (k1 .kept-or .ensures))
+    (part-is (keptOr (a .weeks)) (g .1 .1 .0 .1) (k2 .kept-or2 .ok) (k2 .kept-or2 .ensures)) (toZ-ofZ (s .fits .days))
 
 pub adjust-spec : {M : Type 1} → statement M
 adjust-spec =

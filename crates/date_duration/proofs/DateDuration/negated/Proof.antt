@@ -1,13 +1,12 @@
--- Each part of a valid duration turned.
+-- Each part of a valid duration is small enough to be turned.
 use borrow.Author.Needs.{needs}
 use mathlib.Core.Path.{_≡_, sym, _∙_, ap}
 use mathlib.Core.Bool.{true}
 use borrow.Author.Tests.{not-true, not-false}
-use lib.IntN.{negℤ}
 use Rattle.refusal.specs.Answer.{given}
 use Rattle.date_duration.specs.Proposal.{isValidDuration}
 use Rattle.date_duration.specs.Paper.{durationNegated}
-use Rattle.date_duration.proofs.Durations.{turnable, part-is, same-parts}
+use Rattle.date_duration.proofs.Durations.{AllTurnable, turnable, turn-fits, turn-is, same-parts}
 use Rattle.date_duration.proofs.DateDuration.negated.Statement.{statement}
 use Rattle.date_duration.proofs.DateDuration.negated.Tie as tie
 
@@ -18,29 +17,22 @@ returns c = rw (sym (c .before .is-valid .ensures) ∙ not-true _ (c .if1 .taken
 is-valid : (c : tie.Else1) → isValidDuration (c .before .before .args .self) ≡ true
 is-valid c = sym (c .before .is-valid .ensures) ∙ not-false _ (c .if1 .left)
 
-turned-requires : tie.Need-turned-requires
-turned-requires c κs = turnable _ (is-valid (c .before)) .years-small (record { sfits = c .struct-told .given .0 .1 })
-
-turned-requires-2 : tie.Need-turned-requires-2
-turned-requires-2 c κs = turnable _ (is-valid (c .before .before .before)) .months-small (record { sfits = c .struct-told2 .given .1 .0 .1 })
-
-turned-requires-3 : tie.Need-turned-requires-3
-turned-requires-3 c κs = turnable _ (is-valid (c .before .before .before .before .before)) .weeks-small (record { sfits = c .struct-told3 .given .1 .1 .0 .1 })
-
-turned-requires-4 : tie.Need-turned-requires-4
-turned-requires-4 c κs = turnable _ (is-valid (c .before .before .before .before .before .before .before)) .days-small (record { sfits = c .struct-told4 .given .1 .1 .1 .0 .1 })
+parts : (c : tie.After-struct-told) → AllTurnable (c .before .before .before .before .args .self)
+parts c =
+    let g = c .struct-told .given in
+    turnable _ (g .0 .1) (g .1 .0 .1) (g .1 .1 .0 .1) (g .1 .1 .1 .0 .1) (is-valid (c .before .before))
 
 returns-2 : tie.Need-returns-2
 unfolding durationNegated
 returns-2 c =
-    let d = c .before .before .before .before .before .before .before .before .before .before .args .self in
-    let t = c .before .struct-told4 .given in
-    let e0 = part-is negℤ (d .years) _ (record { sfits = t .0 .1 }) (record { sfits = c .before .before .before .before .before .before .turned .ok }) (c .before .before .before .before .before .before .turned .ensures) in
-    let e1 = part-is negℤ (d .months) _ (record { sfits = t .1 .0 .1 }) (record { sfits = c .before .before .before .before .turned2 .ok }) (c .before .before .before .before .turned2 .ensures) in
-    let e2 = part-is negℤ (d .weeks) _ (record { sfits = t .1 .1 .0 .1 }) (record { sfits = c .before .before .turned3 .ok }) (c .before .before .turned3 .ensures) in
-    let e3 = part-is negℤ (d .days) _ (record { sfits = t .1 .1 .1 .0 .1 }) (record { sfits = c .turned4 .ok }) (c .turned4 .ensures) in
-    rw (is-valid (c .before .before .before .before .before .before .before .before)) (ap given (same-parts _ _ _ _ _ _ _ _ e0 e1 e2 e3))
+    let t = c .before .before .before .before .before .before in
+    let p = parts t in
+    rw (is-valid (t .before .before))
+    (ap given (same-parts _ _ _ _ _ _ _ _ (turn-is (p .of-years)) (turn-is (p .of-months)) (turn-is (p .of-weeks)) (turn-is (p .of-days))))
 
 pub negated-spec : {M : Type 1} → statement M
 negated-spec =
-    tie.close (tie.spec (λ c κs. search needs) returns turned-requires turned-requires-2 turned-requires-3 turned-requires-4 returns-2)
+    tie.close
+    (tie.spec (λ c κs. search needs) returns (λ c. turn-fits (parts c .of-years)) (λ c. turn-fits (parts (c .before .before) .of-months))
+    (λ c. turn-fits (parts (c .before .before .before .before) .of-weeks))
+    (λ c. turn-fits (parts (c .before .before .before .before .before .before) .of-days)) returns-2)

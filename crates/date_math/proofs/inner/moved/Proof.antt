@@ -43,7 +43,8 @@ year-is c =
 months-small : (c : tie.After-struct-known2) → let s = c .before .before .before .before in natAbs (pos (s .args .date .month) +ℤ s .args .months) < 4300000000
 months-small c = let s = c .before .before .before .before in month-small (s .args .date .month) (s .args .months) (search needs) (s .pre .1)
 
-month-back : (c : tie.After-struct-known2) → toZ w64 (c .before .before .before .before .args .date .month) ≡ pos (c .before .before .before .before .args .date .month)
+month-back : (c : tie.After-struct-known2) → toZ w64 (c .before .before .before .before .args .date .month) ≡ pos
+    (c .before .before .before .before .args .date .month)
 month-back c = toZ-pos w64 (search needs)
 
 add-raise-2 : tie.Need-add-raise-2

@@ -31,7 +31,8 @@ returns-2 c = day-far _ (valid (c .before .before .before)) (tested (c .before) 
 returns-3 : tie.Need-returns-3
 returns-3 c =
     let d = c .before .before .epoch-days in
-    ap given (toZ-ofZ {w = w64} {z = d .result} (record { sfits = d .ok }) ∙ d .ensures .0) ∙ day-given _ (valid (c .before .before .before)) (tested (c .before) ∙ not-false _ (c .if2 .left))
+    ap given (toZ-ofZ {w = w64} {z = d .result} (record { sfits = d .ok }) ∙ d .ensures .0) ∙
+    day-given _ (valid (c .before .before .before)) (tested (c .before) ∙ not-false _ (c .if2 .left))
 
 pub to-epoch-days-spec : {M : Type 1} → statement M
 to-epoch-days-spec =

@@ -19,14 +19,28 @@ add-from-epoch-days c =
 add-from-epoch-days-2 : tie.Need-add-from-epoch-days-2
 add-from-epoch-days-2 c =
     let s = c .before in
-    rw (toZ-ofZ (add-from-epoch-days c), toZ-ofZ (mul-from-epoch-days c), toZ-ofZ (s .fits .weeks), toZ-ofZ (s .fits .days), toZ-ofZ (record { sfits = c .epoch-days .ok }))
+    rw (
+      toZ-ofZ (add-from-epoch-days c),
+      toZ-ofZ (mul-from-epoch-days c),
+      toZ-ofZ (s .fits .weeks),
+      toZ-ofZ (s .fits .days),
+      toZ-ofZ (record { sfits = c .epoch-days .ok }),
+    )
     (moved-fits (s .args .weeks) (s .args .days) (s .pre .1) (c .epoch-days .result) (c .epoch-days .ensures .1))
 
 returns : tie.Need-returns
 returns c =
     let e = c .before in
     let s = e .before in
-    rw (toZ-ofZ (add-from-epoch-days-2 e), toZ-ofZ (add-from-epoch-days e), toZ-ofZ (mul-from-epoch-days e), toZ-ofZ (s .fits .weeks), toZ-ofZ (s .fits .days), toZ-ofZ (record { sfits = e .epoch-days .ok }), e .epoch-days .ensures .0) at
+    rw (
+      toZ-ofZ (add-from-epoch-days-2 e),
+      toZ-ofZ (add-from-epoch-days e),
+      toZ-ofZ (mul-from-epoch-days e),
+      toZ-ofZ (s .fits .weeks),
+      toZ-ofZ (s .fits .days),
+      toZ-ofZ (record { sfits = e .epoch-days .ok }),
+      e .epoch-days .ensures .0,
+    ) at
     (c .from-epoch-days .ensures)
 
 pub add-days-spec : {M : Type 1} → statement M

@@ -49,7 +49,14 @@ returns-2 c =
     let m = e .before in
     let s = m .before in
     let back = toZ-ofZ {w = w64} {z = m .month-first .result} (record { sfits = m .month-first .ok }) in
-    let count = rw (toZ-ofZ (add-from-epoch-days-2 e), toZ-ofZ (sub-from-epoch-days e), toZ-ofZ (add-from-epoch-days e), toZ-ofZ (s .fits .day), toZ-ofZ (s .fits .carry), back) at (c .from-epoch-days .ensures) in
+    let count = rw (
+      toZ-ofZ (add-from-epoch-days-2 e),
+      toZ-ofZ (sub-from-epoch-days e),
+      toZ-ofZ (add-from-epoch-days e),
+      toZ-ofZ (s .fits .day),
+      toZ-ofZ (s .fits .carry),
+      back,
+    ) at (c .from-epoch-days .ensures) in
     count ∙ count-given (s .args .year) (s .args .month) _ (s .args .day) (s .args .carry) (first m .0)
 
 pub balance-sum-spec : {M : Type 1} → statement M

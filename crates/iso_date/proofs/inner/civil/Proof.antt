@@ -27,7 +27,10 @@ returns c =
     let b = c .before .before .before in
     let y = toZ-ofZ (record { sfits = c .before .lower32 .ok }) ∙ c .before .lower32 .ensures in
     rw (c .days-before .ensures .0, b .year-start .ensures .0, b .before .is-leap .ensures)
-    (civil-is _ _ _ _ (b .before .before .year-of .ensures) y (rw (b .year-start .ensures .0, b .before .is-leap .ensures) at (c .before .before .month-of .ensures)))
+    (civil-is _ _ _ _ (b .before .before .year-of .ensures) y (rw (
+      b .year-start .ensures .0,
+      b .before .is-leap .ensures,
+    ) at (c .before .before .month-of .ensures)))
 
 pub civil-spec : {M : Type 1} → statement M
 civil-spec =

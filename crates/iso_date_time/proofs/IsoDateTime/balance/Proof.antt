@@ -16,13 +16,27 @@ use Rattle.iso_date_time.proofs.IsoDateTime.balance.Tie as tie
 returns : tie.Need-returns
 returns c =
     let f = c .before .before .before .fits in
-    let t = rw (toZ-ofZ (f .hour), toZ-ofZ (f .minute), toZ-ofZ (f .second), toZ-ofZ (f .millisecond), toZ-ofZ (f .microsecond), toZ-ofZ (f .nanosecond)) at (c .before .before .balance .ensures) in
+    let t = rw (
+      toZ-ofZ (f .hour),
+      toZ-ofZ (f .minute),
+      toZ-ofZ (f .second),
+      toZ-ofZ (f .millisecond),
+      toZ-ofZ (f .microsecond),
+      toZ-ofZ (f .nanosecond),
+    ) at (c .before .before .balance .ensures) in
     balance-bound _ _ _ _ _ _ _ _ _ _ (sym (ap ofBalance (c .enum-told .given .1)) ∙ t)
 
 balance-sum-requires : tie.Need-balance-sum-requires
 balance-sum-requires c κs =
     let f = c .before .before .before .before .before .fits in
-    let t = rw (toZ-ofZ (f .hour), toZ-ofZ (f .minute), toZ-ofZ (f .second), toZ-ofZ (f .millisecond), toZ-ofZ (f .microsecond), toZ-ofZ (f .nanosecond)) at (c .before .before .before .before .balance .ensures) in
+    let t = rw (
+      toZ-ofZ (f .hour),
+      toZ-ofZ (f .minute),
+      toZ-ofZ (f .second),
+      toZ-ofZ (f .millisecond),
+      toZ-ofZ (f .microsecond),
+      toZ-ofZ (f .nanosecond),
+    ) at (c .before .before .before .before .balance .ensures) in
     let b = c .before .before .balanced .given .0 .0 in
     let days : toZ w64 (ofZ w64 (b .days)) ≡ b .days = search needs in
     let is = sym (ap ofBalance (c .before .before .balanced .given .1)) ∙ t in
@@ -31,7 +45,14 @@ balance-sum-requires c κs =
 returns-2 : tie.Need-returns-2
 returns-2 c =
     let f = c .before .before .before .before .before .before .before .before .fits in
-    let t = rw (toZ-ofZ (f .hour), toZ-ofZ (f .minute), toZ-ofZ (f .second), toZ-ofZ (f .millisecond), toZ-ofZ (f .microsecond), toZ-ofZ (f .nanosecond)) at (c .before .before .before .before .before .before .before .balance .ensures) in
+    let t = rw (
+      toZ-ofZ (f .hour),
+      toZ-ofZ (f .minute),
+      toZ-ofZ (f .second),
+      toZ-ofZ (f .millisecond),
+      toZ-ofZ (f .microsecond),
+      toZ-ofZ (f .nanosecond),
+    ) at (c .before .before .before .before .before .before .before .balance .ensures) in
     let b = c .before .before .before .before .before .balanced .given .0 .0 in
     let days : toZ w64 (ofZ w64 (b .days)) ≡ b .days = search needs in
     let is = sym (ap ofBalance (c .before .before .before .before .before .balanced .given .1)) ∙ t in
@@ -41,10 +62,25 @@ returns-2 c =
 -- what is given, by the exact count
 given-is : (c : tie.After-time) →
     given (dateTime (c .before .before .date .given .0 .0) (c .before .before .before .before .before .before .before .balanced .given .0 .0 .time)) ≡
-    balanceDateTime (c .before .before .before .before .before .before .before .before .before .before .args .year) (c .before .before .before .before .before .before .before .before .before .before .args .month) (c .before .before .before .before .before .before .before .before .before .before .args .day) (c .before .before .before .before .before .before .before .before .before .before .args .hour) (c .before .before .before .before .before .before .before .before .before .before .args .minute) (c .before .before .before .before .before .before .before .before .before .before .args .second) (c .before .before .before .before .before .before .before .before .before .before .args .millisecond) (c .before .before .before .before .before .before .before .before .before .before .args .microsecond) (c .before .before .before .before .before .before .before .before .before .before .args .nanosecond)
+    balanceDateTime (c .before .before .before .before .before .before .before .before .before .before .args .year)
+    (c .before .before .before .before .before .before .before .before .before .before .args .month)
+    (c .before .before .before .before .before .before .before .before .before .before .args .day)
+    (c .before .before .before .before .before .before .before .before .before .before .args .hour)
+    (c .before .before .before .before .before .before .before .before .before .before .args .minute)
+    (c .before .before .before .before .before .before .before .before .before .before .args .second)
+    (c .before .before .before .before .before .before .before .before .before .before .args .millisecond)
+    (c .before .before .before .before .before .before .before .before .before .before .args .microsecond)
+    (c .before .before .before .before .before .before .before .before .before .before .args .nanosecond)
 given-is c =
     let f = c .before .before .before .before .before .before .before .before .before .before .fits in
-    let t = rw (toZ-ofZ (f .hour), toZ-ofZ (f .minute), toZ-ofZ (f .second), toZ-ofZ (f .millisecond), toZ-ofZ (f .microsecond), toZ-ofZ (f .nanosecond)) at (c .before .before .before .before .before .before .before .before .before .balance .ensures) in
+    let t = rw (
+      toZ-ofZ (f .hour),
+      toZ-ofZ (f .minute),
+      toZ-ofZ (f .second),
+      toZ-ofZ (f .millisecond),
+      toZ-ofZ (f .microsecond),
+      toZ-ofZ (f .nanosecond),
+    ) at (c .before .before .before .before .before .before .before .before .before .balance .ensures) in
     let b = c .before .before .before .before .before .before .before .balanced .given .0 .0 in
     let days : toZ w64 (ofZ w64 (b .days)) ≡ b .days = search needs in
     let is = sym (ap ofBalance (c .before .before .before .before .before .before .before .balanced .given .1)) ∙ t in

@@ -37,7 +37,8 @@ add-days-requires c κs =
 
 -- the day that the sum leads to, where it is one
 sum-is : (c : tie.After-add-days) → let b = c .before .before .before in
-    ofDate (c .add-days .result) ≡ dayToDate (epochDays (b .before .before .before .before .before .before .before .before .args .self .date) +ℤ b .b .given .0 .0 .days)
+    ofDate (c .add-days .result) ≡ dayToDate (epochDays (b .before .before .before .before .before .before .before .before .args .self .date) +ℤ b .b
+    .given .0 .0 .days)
 sum-is c =
     let b = c .before .before .before in
     let r = b .before .before .before .before .before .before .before .before .args .self in

@@ -25,7 +25,8 @@ at-day : (c : tie.After-adjusted) →
 at-day c =
     let u = c .before .before .before .before in
     let s = u .before .before .before .before .before in
-    placed _ _ (limits-fine _ (sym (s .pre .0))) (limits-fine _ (sym (s .pre .1))) _ _ _ _ _ _ _ (u .day-up .ensures .0) (c .before .before .day-up2 .ensures .0)
+    placed _ _ (limits-fine _ (sym (s .pre .0))) (limits-fine _ (sym (s .pre .1))) _ _ _ _ _ _ _ (u .day-up .ensures .0)
+    (c .before .before .day-up2 .ensures .0)
     (c .before .before .before .nanoseconds-of .ensures .0) (c .before .nanoseconds-of2 .ensures .0) (c .adjusted .ensures)
 
 in-seconds-requires : tie.Need-in-seconds-requires

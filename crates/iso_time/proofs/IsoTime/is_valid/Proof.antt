@@ -1,4 +1,4 @@
--- The six tests.
+-- Each of the six fields is at most its largest, as the definition tests them.
 use Rattle.iso_time.proofs.Times.{time-tests}
 use Rattle.iso_time.proofs.IsoTime.is_valid.Statement.{statement}
 use Rattle.iso_time.proofs.IsoTime.is_valid.Tie as tie

@@ -1,16 +1,21 @@
--- Below a day no day is over, else one.
+-- The days are the quotient by a day, the time lies at the remainder.
 use borrow.Author.Needs.{needs}
 use native.Mathlib.Omega.{arith}
 use mathlib.Core.Path.{ap}
 use lib.IntN.{pos}
+use Prim.Native.Nat.{_/_}
+use mir.Facts.{toZ-pos}
+use mir.Syntax.{w64}
+use Rattle.options.specs.Units.{nsPerDay}
 use Rattle.iso_time.proofs.inner.carried.Statement.{statement}
 use Rattle.iso_time.proofs.inner.carried.Tie as tie
 
 returns : tie.Need-returns
-returns c = record { exactly = ap pos (omega (arith, c .time-at .ensures .0)); valid = c .time-at .ensures .1 }
-
-returns-2 : tie.Need-returns-2
-returns-2 c = record { exactly = ap pos (omega (arith, c .time-at2 .ensures .0)); valid = c .time-at2 .ensures .1 }
+returns c =
+    record {
+      exactly = rw (toZ-pos w64 {n = c .before .args .n / nsPerDay} (omega arith)) (ap pos (omega (arith, c .time-at .ensures .0)));
+      valid = c .time-at .ensures .1;
+    }
 
 pub carried-spec : {M : Type 1} → statement M
-carried-spec = tie.close (tie.spec (λ c κs. search needs) returns (λ c κs. search needs) returns-2)
+carried-spec = tie.close (tie.spec (λ c. search needs) (λ c κs. search needs) returns)

@@ -1,4 +1,4 @@
--- A field within its bound lies within the bias.
+-- The bias is above the bound, so that a raised field is a natural.
 use native.Mathlib.Omega.{arith}
 use mathlib.Core.Path.{sym, _∙_}
 use mir.Facts.{toZ-ofZ}

@@ -1,22 +1,20 @@
--- Forward or back, the size is divided once and the sign given back.
+-- The machine's / and % cut towards zero, as the definition does, and nothing leaves 64 bits.
 use borrow.Author.Needs.{needs}
-use mathlib.Core.Path.{_∙_}
 use mir.Facts.{toZ-ofZ}
-use Rattle.iso_time.proofs.Checks.{span-forward, span-back}
+use lib.Dec.{lit<}
+use Rattle.iso_time.proofs.Checks.{until-is, until-fits, seconds-fit, nanoseconds-fit}
 use Rattle.iso_time.proofs.inner.span.Statement.{statement}
 use Rattle.iso_time.proofs.inner.span.Tie as tie
 
+sub-n : tie.Need-sub-n
+sub-n c = until-fits _ _ (c .pre .0) (c .pre .1)
+
+div-t4 : tie.Need-div-t4
+div-t4 c = (lit< tt, rw (toZ-ofZ (sub-n c)) (seconds-fit _ (sub-n c)))
+
 returns : tie.Need-returns
 returns c =
-    span-forward _ _ _ _ (c .before .before .if1 .taken) (toZ-ofZ (record { sfits = c .before .from-natural .ok }) ∙ c .before .from-natural .ensures)
-    (toZ-ofZ (record { sfits = c .from-natural2 .ok }) ∙ c .from-natural2 .ensures)
-
-returns-2 : tie.Need-returns-2
-returns-2 c =
-    span-back _ _ _ _ (c .before .before .if1 .left) (toZ-ofZ (record { sfits = c .before .negated .ok }) ∙ c .before .negated .ensures)
-    (toZ-ofZ (record { sfits = c .negated2 .ok }) ∙ c .negated2 .ensures)
+    rw (toZ-ofZ (sub-n c)) (rw (toZ-ofZ (seconds-fit _ (sub-n c)), toZ-ofZ (nanoseconds-fit _ (sub-n c)), until-is _ _ (c .pre .0) (c .pre .1)))
 
 pub span-spec : {M : Type 1} → statement M
-span-spec =
-    tie.close
-    (tie.spec (λ c κs. search needs) (λ c κs. search needs) returns (λ c. search needs) (λ c κs. search needs) (λ c κs. search needs) returns-2)
+span-spec = tie.close (tie.spec (λ c. search needs) (λ c. search needs) sub-n div-t4 div-t4 returns)

@@ -1,4 +1,4 @@
--- Quotients and remainders of the one number.
+-- Each field is a remainder of a quotient of the one number, and their sum is the number.
 use borrow.Author.Needs.{needs}
 use Rattle.iso_time.proofs.Times.{time-at-is}
 use Rattle.iso_time.proofs.inner.time_at.Statement.{statement}
@@ -8,4 +8,6 @@ returns : tie.Need-returns
 returns c = time-at-is _ (c .pre)
 
 pub time-at-spec : {M : Type 1} → statement M
-time-at-spec = tie.close (tie.spec (λ c. search needs) (λ c. search needs) (λ c. search needs) (λ c. search needs) (λ c. search needs) (λ c. search needs) returns)
+time-at-spec =
+    tie.close
+    (tie.spec (λ c. search needs) (λ c. search needs) (λ c. search needs) (λ c. search needs) (λ c. search needs) (λ c. search needs) returns)

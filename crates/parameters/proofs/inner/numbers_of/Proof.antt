@@ -41,7 +41,8 @@ returns : tie.Need-returns Inv-loop μ-loop
 returns c =
     let l = c .before .before .before in
     reads-as-none (c .no-numbers .ensures)
-    (missing (letters l) (line l) (from l) (l .loop .cells) (l .loop .k) (l .loop .at) (c .before .before .loop-test .taken) (omega arith) (l .loop .inv .1 .1 .1))
+    (missing (letters l) (line l) (from l) (l .loop .cells) (l .loop .k) (l .loop .at) (c .before .before .loop-test .taken) (omega arith)
+    (l .loop .inv .1 .1 .1))
 
 -- where the word is that is read next
 abbrev at-loop : tie.After-word-end Inv-loop μ-loop → tie.At-loop Inv-loop μ-loop
@@ -54,7 +55,8 @@ ends : (c : tie.After-word-end Inv-loop μ-loop) → c .word-end .result ≤ len
 ends c = end-inside (line (at-loop c)) _ _ (starts c) (c .word-end .ensures)
 
 found : (c : tie.After-number-of Inv-loop μ-loop) → let w = c .before .before .before in let l = at-loop w in
-    ofNumber (c .number-of .result) ≡ within (letterKind (getD (letters l) (l .loop .k) 0) .low) (letterKind (getD (letters l) (l .loop .k) 0) .high) (numberOf (word (drop (l .loop .at + 1) (line l))))
+    ofNumber (c .number-of .result) ≡ within (letterKind (getD (letters l) (l .loop .k) 0) .low) (letterKind (getD (letters l) (l .loop .k) 0) .high)
+    (numberOf (word (drop (l .loop .at + 1) (line l))))
 found c =
     let w = c .before .before .before in
     rw (word-there (line (at-loop w)) _ _ (starts w) (w .word-end .ensures)) at (c .number-of .ensures)
@@ -65,8 +67,10 @@ returns-2 c =
     let w = i .before .before .before .before in
     let l = at-loop w in
     reads-as-none (c .no-numbers2 .ensures)
-    (no-number (letters l) (line l) (from l) (l .loop .cells) (l .loop .k) (l .loop .at) (w .word-end .result) (i .before .number-of .result) (w .before .before .loop-test .taken) (omega (arith, starts w))
-    (rest-there (line l) _ _ (starts w) (w .word-end .ensures)) (found (i .before)) (l .loop .inv .1 .1 .1) (sym (i .is-number .ensures) ∙ not-true _ (c .before .if2 .taken)))
+    (no-number (letters l) (line l) (from l) (l .loop .cells) (l .loop .k) (l .loop .at) (w .word-end .result) (i .before .number-of .result)
+    (w .before .before .loop-test .taken) (omega (arith, starts w))
+    (rest-there (line l) _ _ (starts w) (w .word-end .ensures)) (found (i .before)) (l .loop .inv .1 .1 .1)
+    (sym (i .is-number .ensures) ∙ not-true _ (c .before .if2 .taken)))
 
 small : (l : tie.At-loop Inv-loop μ-loop) → l .loop .k < length (letters l) → l .loop .k < 24
 small l h = omega (arith, l .before .before .before .pre .1)
@@ -82,10 +86,15 @@ loop-again c =
       (
         ends w,
         (
-          (length-set (l .loop .cells) (l .loop .k) (c .cell-of .result) ∙ l .loop .inv .1 .1 .0 .0, blank-more (l .loop .cells) (l .loop .k) (c .cell-of .result) (small l more) (l .loop .inv .1 .1 .0 .1)),
+          (
+            length-set (l .loop .cells) (l .loop .k) (c .cell-of .result) ∙ l .loop .inv .1 .1 .0 .0,
+            blank-more (l .loop .cells) (l .loop .k) (c .cell-of .result) (small l more) (l .loop .inv .1 .1 .0 .1),
+          ),
           rw (c .cell-of .ensures)
-              (one-more (letters l) (line l) (from l) (l .loop .cells) (l .loop .k) (l .loop .at) (w .word-end .result) (i .before .number-of .result) more (omega (arith, starts w))
-              (rest-there (line l) _ _ (starts w) (w .word-end .ensures)) (found (i .before)) (l .loop .inv .1 .1 .1) (sym (i .is-number .ensures) ∙ not-false _ (c .before .if2 .left)) room),
+              (one-more (letters l) (line l) (from l) (l .loop .cells) (l .loop .k) (l .loop .at) (w .word-end .result) (i .before .number-of .result)
+              more (omega (arith, starts w))
+              (rest-there (line l) _ _ (starts w) (w .word-end .ensures)) (found (i .before)) (l .loop .inv .1 .1 .1)
+              (sym (i .is-number .ensures) ∙ not-false _ (c .before .if2 .left)) room),
         ),
       ),
     )
@@ -94,7 +103,8 @@ returns-3 : tie.Need-returns-3 Inv-loop μ-loop
 returns-3 c =
     let l = c .before .before .before in
     reads-as-none (c .no-numbers3 .ensures)
-    (too-many (letters l) (line l) (from l) (l .loop .cells) (l .loop .k) (l .loop .at) (c .before .before .loop-test .left) (c .before .if3 .taken) (l .loop .inv .1 .1 .1))
+    (too-many (letters l) (line l) (from l) (l .loop .cells) (l .loop .k) (l .loop .at) (c .before .before .loop-test .left) (c .before .if3 .taken)
+    (l .loop .inv .1 .1 .1))
 
 returns-4 : tie.Need-returns-4 Inv-loop μ-loop
 returns-4 c =
@@ -109,6 +119,14 @@ numbers-of-spec =
     (tie.spec Inv-loop μ-loop loop-holds (λ c κs. search needs) returns (λ c. search needs) (λ c κs. search needs) (λ c. search needs)
     (λ c. search needs) (λ c. omega (arith, ends c)) (λ c. search needs) (λ c κs. search needs) (λ c κs. search needs) (λ c κs. search needs)
     returns-2 (λ c κs. search needs)
-    (λ c. omega (arith, small (at-loop (c .before .before .before .before .before .before)) (c .before .before .before .before .before .before .before .before .loop-test .taken)))
-    (λ c. omega (arith, small (at-loop (c .before .before .before .before .before .before)) (c .before .before .before .before .before .before .before .before .loop-test .taken)))
+    (λ c. omega (
+      arith,
+      small (at-loop (c .before .before .before .before .before .before))
+          (c .before .before .before .before .before .before .before .before .loop-test .taken),
+    ))
+    (λ c. omega (
+      arith,
+      small (at-loop (c .before .before .before .before .before .before))
+          (c .before .before .before .before .before .before .before .before .loop-test .taken),
+    ))
     (λ c. search needs) (λ c. search needs) loop-again (λ c κs. search needs) returns-3 returns-4)

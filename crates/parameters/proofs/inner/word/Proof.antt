@@ -21,7 +21,8 @@ returns c =
     let s = c .before .before in
     let a = s .args in
     let x : Cell = getD (a .n .cells) (a .i) (record { negative = false; size = 0 }) in
-    size-natural (x .negative) (x .size) (at (numbersIn (a .n)) (a .i)) (cell-there (a .n) (a .i) _ (inside (unsigned 64) [] (a .n) (a .i) (s .pre))) (in-kind (unsigned 64) [] (a .n) (a .i) (s .pre) .0)
+    size-natural (x .negative) (x .size) (at (numbersIn (a .n)) (a .i)) (cell-there (a .n) (a .i) _ (inside (unsigned 64) [] (a .n) (a .i) (s .pre)))
+    (in-kind (unsigned 64) [] (a .n) (a .i) (s .pre) .0)
 
 pub word-spec : {M : Type 1} → statement M
 word-spec = tie.close (tie.spec mul-c array-copy-out-c returns)

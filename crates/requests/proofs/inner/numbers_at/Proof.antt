@@ -20,7 +20,10 @@ returns : tie.Need-returns
 returns c =
     let w = c .before .before in
     let s = w .before .before .before in
-    rw (word-there _ _ _ (start-inside _ (s .pre .0) _ (s .pre .1 .0)) (w .word-end .ensures), letters-there _ (s .pre .0) _ (s .pre .1 .0)) at (c .numbers-of .ensures)
+    rw (
+      word-there _ _ _ (start-inside _ (s .pre .0) _ (s .pre .1 .0)) (w .word-end .ensures),
+      letters-there _ (s .pre .0) _ (s .pre .1 .0),
+    ) at (c .numbers-of .ensures)
 
 pub numbers-at-spec : {M : Type 1} → statement M
 numbers-at-spec =

@@ -58,8 +58,11 @@ returns-3 : tie.Need-returns-3
 returns-3 c =
     let p = c .before .before in
     let t = p .before .before in
-    let w = t .before .before .before in
-    (wrote-as (p .put-byte2 .ensures) (unknown-reply (line w) (w .before .before .if1 .left) (w .before .if2 .left) _ (named (t .before)) (t .if3 .taken)), omega (arith, p .put-byte2 .ensures .ends))
+    let w = t .before .before .before in (
+      wrote-as (p .put-byte2 .ensures) (unknown-reply (line w) (w .before .before .if1 .left) (w .before .if2 .left) _ (named (t .before))
+          (t .if3 .taken)),
+      omega (arith, p .put-byte2 .ensures .ends),
+    )
 
 known : (c : tie.Else3) → c .before .place-of .result < length calls
 known c = omega (arith, named (c .before), place-most calls (word (line (c .before .before .before))), c .if3 .left)
@@ -69,7 +72,8 @@ numbers-at-requires c κs =
     let w = c .before .before .before in
     (w .before .before .before .before .before .before .pre .0, (known c, inside w))
 
-read : (c : tie.After-numbers-at) → Reads (c .numbers-at .result) (arguments (getD calls (c .before .before .place-of .result) noRow .takes) (rest (line (c .before .before .before .before))))
+read : (c : tie.After-numbers-at) → Reads (c .numbers-at .result) (arguments (getD calls (c .before .before .place-of .result) noRow .takes)
+    (rest (line (c .before .before .before .before))))
 read c = rw (follows (c .before .before .before .before)) at (c .numbers-at .ensures)
 
 returns-4 : tie.Need-returns-4
@@ -78,15 +82,22 @@ returns-4 c =
     let n = p .before .before .before .before in
     let w = n .before .before .before .before in (
       wrote-as (p .put-byte3 .ensures)
-          (no-reply (line w) (w .before .before .if1 .left) (w .before .if2 .left) _ (named (n .before .before)) (known (n .before)) _ (read n) (not-true _ (p .before .before .if4 .taken))),
+          (no-reply (line w) (w .before .before .if1 .left) (w .before .if2 .left) _ (named (n .before .before)) (known (n .before)) _ (read n)
+          (not-true _ (p .before .before .if4 .taken))),
       omega (arith, p .put-byte3 .ensures .ends),
     )
 
 answer-requires : tie.Need-answer-requires
 answer-requires c κs =
     let n = c .before .before .before in
-    let w = n .before .before .before .before in
-    (known (n .before), record { numbers = holds-all _ _ _ (read n) (not-false _ (c .before .if4 .left)); room = omega (arith, w .before .before .before .before .before .before .pre .1) })
+    let w = n .before .before .before .before in (
+      known (n .before),
+      record {
+        numbers = holds-all _ _ _ (read n) (not-false _ (c .before .if4 .left));
+        room =
+            omega (arith, w .before .before .before .before .before .before .pre .1);
+      },
+    )
 
 returns-5 : tie.Need-returns-5
 returns-5 c =
@@ -94,7 +105,8 @@ returns-5 c =
     let n = p .before .before .before .before in
     let w = n .before .before .before .before in (
       wrote-as (p .answer .ensures .wrote)
-          (good-reply (line w) (w .before .before .if1 .left) (w .before .if2 .left) _ (named (n .before .before)) (known (n .before)) _ (read n) (not-false _ (p .before .before .if4 .left))),
+          (good-reply (line w) (w .before .before .if1 .left) (w .before .if2 .left) _ (named (n .before .before)) (known (n .before)) _ (read n)
+          (not-false _ (p .before .before .if4 .left))),
       p .answer .ensures .short,
     )
 

@@ -22,7 +22,8 @@ cast-result-3 c =
     let f = c .fits .y in
     let k : c .args .k < 2 ^ 63 = omega arith in
     let low = low32 _ _ f (c .pre .0) in
-    rw (toZ-ofZ (add-result c), toZ-ofZ (cast-result c), toZ-ofZ f, toZ-pos w64 k) (as-nat _ (raised-low _ _ low) (raised-fits _ _ low (high32-64 _ _ f (c .pre .1))))
+    rw (toZ-ofZ (add-result c), toZ-ofZ (cast-result c), toZ-ofZ f, toZ-pos w64 k) (as-nat _ (raised-low _ _ low)
+    (raised-fits _ _ low (high32-64 _ _ f (c .pre .1))))
 
 returns : tie.Need-returns
 returns c =

@@ -1,4 +1,5 @@
--- `writing::inner::put_digits` meets its contract. The buffer with the digits that are left to write in their place is, at each turn, the buffer with all of them.
+-- `writing::inner::put_digits` meets its contract. The buffer with the digits that are left to write in their place is, at each turn, the
+-- buffer with all of them.
 use borrow.Author.Needs.{needs}
 use Prim.Native.Nat.{ℕ, _+_, _/_, _≤_}
 use native.Mathlib.Omega.{arith}
@@ -12,7 +13,8 @@ use Rattle.writing.proofs.inner.put_digits.Tie as tie
 
 abbrev Inv-loop : tie.InvT-loop
 Inv-loop out₀ at n end left₀ i₀ out left i =
-    (left ≤ n) × ((i + 1 ≡ at + length (digits 20 left)) × ((length (digits 20 left) ≤ length (digits 20 n)) × ((length out ≡ length out₀) × (placed out at (digits 20 left) ≡ placed out₀ at (digits 20 n)))))
+    (left ≤ n) × ((i + 1 ≡ at + length (digits 20 left)) × ((length (digits 20 left) ≤ length (digits 20 n)) ×
+    ((length out ≡ length out₀) × (placed out at (digits 20 left) ≡ placed out₀ at (digits 20 n)))))
 
 abbrev μ-loop : tie.MeasureT-loop
 μ-loop out₀ at n end left₀ i₀ out left i = left
@@ -51,8 +53,16 @@ loop-again c =
     let at-loop = c .before .loop in
     let here = at-loop .inv .1 .0 in
     let shorter = count-more (at-loop .left) (omega arith) (c .loop-test .taken) in
-    let placed-so = put-digit (at-loop .out) _ (at-loop .left) (at-loop .i) here (omega arith) (omega arith) (c .loop-test .taken) in
-    (omega arith, (omega (arith, shorter, some-digit 19 (at-loop .left / 10)), (omega (arith, shorter), (simp length-set (at-loop .inv .1 .1 .1 .0), placed-so ∙ at-loop .inv .1 .1 .1 .1))))
+    let placed-so = put-digit (at-loop .out) _ (at-loop .left) (at-loop .i) here (omega arith) (omega arith) (c .loop-test .taken) in (
+      omega arith,
+      (
+        omega (arith, shorter, some-digit 19 (at-loop .left / 10)),
+        (
+          omega (arith, shorter),
+          (simp length-set (at-loop .inv .1 .1 .1 .0), placed-so ∙ at-loop .inv .1 .1 .1 .1),
+        ),
+      ),
+    )
 
 cast-out-2 : tie.Need-cast-out-2 Inv-loop μ-loop
 cast-out-2 c = omega arith
@@ -70,7 +80,8 @@ returns : tie.Need-returns Inv-loop μ-loop
 returns c =
     let at-loop = c .before .loop in
     let s = c .before .before .before .before in
-    let whole = put-first (at-loop .out) (s .args .at) (at-loop .left) (at-loop .i) (at-loop .inv .1 .0) (omega arith) (c .loop-test .left) ∙ at-loop .inv .1 .1 .1 .1 in
+    let whole = put-first (at-loop .out) (s .args .at) (at-loop .left) (at-loop .i) (at-loop .inv .1 .0) (omega arith) (c .loop-test .left) ∙
+    at-loop .inv .1 .1 .1 .1 in
     placed-wrote _ _ _ _ _ (s .pre) whole (ap (λ (k : ℕ). s .args .at + k) (c .before .before .digit-count .ensures))
 
 pub put-digits-spec : {M : Type 1} → statement M

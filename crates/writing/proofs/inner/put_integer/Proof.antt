@@ -20,7 +20,8 @@ returns c =
     let sign = d .before .before .before .before .before in
     let gap = sign .before .before .before .before .before in
     let z = toZ-ofZ (gap .before .before .before .fits .z) in (
-      rw (decimal-minus _ _ (sym z ∙ d .before .to-depth .ensures .0)) (after (gap .put-byte .ensures) (after (sign .put-byte2 .ensures) (d .put-digits .ensures))),
+      rw (decimal-minus _ _ (sym z ∙ d .before .to-depth .ensures .0)) (after (gap .put-byte .ensures)
+          (after (sign .put-byte2 .ensures) (d .put-digits .ensures))),
       omega (arith, d .put-digits .ensures .ends, few-digits 20 18 (d .before .to-depth .result + 1) (omega arith)),
     )
 

@@ -1,4 +1,3 @@
--- The numbers as the call's parameters, the call, and its answer as the reply.
 use borrow.Author.Needs.{needs}
 use mathlib.Core.Path.{ap}
 use mir.Facts.{toZ-ofZ}
@@ -16,7 +15,15 @@ returns c =
     let n1 = n2 .before in
     let n0 = n1 .before in
     replied-as (c .before .before .date-reply .ensures)
-    (ap (shown dateValues) (rw (toZ-ofZ {w = w32} {z = n0 .int .result} (record { sfits = n0 .int .ok }), toZ-ofZ {w = w32} {z = n1 .int2 .result} (record { sfits = n1 .int2 .ok }), toZ-ofZ {w = w64} {z = n2 .long .result} (record { sfits = n2 .long .ok }), n0 .int .ensures, n1 .int2 .ensures, n2 .long .ensures) at (call .try-balance .ensures)))
+    (ap (shown dateValues) (rw (
+      toZ-ofZ {w = w32} {z = n0 .int .result} (record { sfits = n0 .int .ok }),
+      toZ-ofZ {w = w32} {z = n1 .int2 .result} (record { sfits = n1 .int2 .ok }),
+      toZ-ofZ {w = w64} {z = n2 .long .result}
+          (record { sfits = n2 .long .ok }),
+      n0 .int .ensures,
+      n1 .int2 .ensures,
+      n2 .long .ensures,
+    ) at (call .try-balance .ensures)))
 
 pub balance-date-spec : {M : Type 1} → statement M
 balance-date-spec =

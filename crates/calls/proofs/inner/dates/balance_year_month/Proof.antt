@@ -1,4 +1,3 @@
--- The numbers as the call's parameters, the call, and its answer as the reply.
 use borrow.Author.Needs.{needs}
 use mathlib.Core.Path.{_≡_}
 use mir.Syntax.{w32}
@@ -10,8 +9,10 @@ use Rattle.calls.proofs.inner.dates.balance_year_month.Tie as tie
 
 returns : tie.Need-returns
 returns c =
-    let e0 : toZ w32 (ofZ w32 (c .before .before .before .before .before .before .int .result)) ≡ c .before .before .before .before .before .before .int .result = search needs in
-    let e1 : toZ w32 (ofZ w32 (c .before .before .before .before .before .int2 .result)) ≡ c .before .before .before .before .before .int2 .result = search needs in
+    let e0 : toZ w32 (ofZ w32 (c .before .before .before .before .before .before .int .result)) ≡ c .before .before .before .before .before .before
+    .int .result = search needs in
+    let e1 : toZ w32 (ofZ w32 (c .before .before .before .before .before .int2 .result)) ≡ c .before .before .before .before .before .int2 .result =
+    search needs in
     replied-as (c .before .before .year-month-reply .ensures) (cc)
 
 pub balance-year-month-spec : {M : Type 1} → statement M

@@ -1,4 +1,3 @@
--- The numbers as the call's parameters, the call, and its answer as the reply.
 use borrow.Author.Needs.{needs}
 use mathlib.Core.Path.{ap}
 use mir.Facts.{toZ-ofZ}
@@ -14,7 +13,10 @@ returns c =
     let call = c .before .before .before .before in
     let n0 = call .before in
     replied-as (c .before .before .date-reply .ensures)
-    (ap (shown dateValues) (rw (toZ-ofZ {w = w64} {z = n0 .long .result} (record { sfits = n0 .long .ok }), n0 .long .ensures) at (call .from-epoch-days .ensures)))
+    (ap (shown dateValues) (rw (
+      toZ-ofZ {w = w64} {z = n0 .long .result} (record { sfits = n0 .long .ok }),
+      n0 .long .ensures,
+    ) at (call .from-epoch-days .ensures)))
 
 pub day-to-date-spec : {M : Type 1} → statement M
 day-to-date-spec =

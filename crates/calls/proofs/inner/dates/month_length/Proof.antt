@@ -1,4 +1,3 @@
--- The numbers as the call's parameters, the call, and its answer as the reply.
 use borrow.Author.Needs.{needs}
 use mathlib.Core.Path.{ap}
 use mir.Facts.{toZ-ofZ}
@@ -15,7 +14,11 @@ returns c =
     let n1 = call .before in
     let n0 = n1 .before in
     replied-as (c .before .before .length-reply .ensures)
-    (ap (shown naturalValue) (rw (toZ-ofZ {w = w32} {z = n0 .int .result} (record { sfits = n0 .int .ok }), n0 .int .ensures, n1 .byte .ensures) at (call .iso-days-in-month .ensures)))
+    (ap (shown naturalValue) (rw (
+      toZ-ofZ {w = w32} {z = n0 .int .result} (record { sfits = n0 .int .ok }),
+      n0 .int .ensures,
+      n1 .byte .ensures,
+    ) at (call .iso-days-in-month .ensures)))
 
 pub month-length-spec : {M : Type 1} → statement M
 month-length-spec =

@@ -1,4 +1,3 @@
--- The numbers as the call's parameters, the call, and its answer as the reply.
 use borrow.Author.Needs.{needs}
 use mathlib.Core.Path.{ap}
 use mir.Facts.{toZ-ofZ}
@@ -17,7 +16,13 @@ returns c =
     let n1 = n2 .before in
     let n0 = n1 .before in
     replied-as (c .before .before .duration-reply .ensures)
-    (ap (shown durationValues) (rw (toZ-ofZ {w = w64} {z = n1 .long .result} (record { sfits = n1 .long .ok }), n0 .duration .ensures, n1 .long .ensures, n2 .part .ensures, n3 .part2 .ensures) at (call .adjust .ensures)))
+    (ap (shown durationValues) (rw (
+      toZ-ofZ {w = w64} {z = n1 .long .result} (record { sfits = n1 .long .ok }),
+      n0 .duration .ensures,
+      n1 .long .ensures,
+      n2 .part .ensures,
+      n3 .part2 .ensures,
+    ) at (call .adjust .ensures)))
 
 pub duration-adjust-spec : {M : Type 1} → statement M
 duration-adjust-spec =

@@ -33,7 +33,8 @@ long-requires-4 c κs = holds-from 3 1 (c .before .before .before .pre)
 returns : tie.Need-returns
 returns c =
     same-duration _ _ _ _ _ _ _ _
-    (toZ-ofZ {w = w64} {z = c .before .before .before .long .result} (record { sfits = c .before .before .before .long .ok }) ∙ c .before .before .before .long .ensures)
+    (toZ-ofZ {w = w64} {z = c .before .before .before .long .result} (record { sfits = c .before .before .before .long .ok }) ∙
+    c .before .before .before .long .ensures)
     (toZ-ofZ {w = w64} {z = c .before .before .long2 .result} (record { sfits = c .before .before .long2 .ok }) ∙ c .before .before .long2 .ensures)
     (toZ-ofZ {w = w64} {z = c .before .long3 .result} (record { sfits = c .before .long3 .ok }) ∙ c .before .long3 .ensures)
     (toZ-ofZ {w = w64} {z = c .long4 .result} (record { sfits = c .long4 .ok }) ∙ c .long4 .ensures)

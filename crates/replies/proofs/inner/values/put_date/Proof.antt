@@ -24,7 +24,8 @@ returns c =
     let year = month .before .before .before .before .before in
     let y = year .before .before .before .before .before .args .d .year in
     let back : toZ w32 (ofZ w32 y) ≡ y = search needs in (
-      after (rw (toZ-ofZ (cast-put-integer (year .before)), back) at (year .put-integer .ensures .0)) (after (month .put-natural .ensures .0) (after (day .put-natural2 .ensures .0) (nothing _ _))),
+      after (rw (toZ-ofZ (cast-put-integer (year .before)), back) at (year .put-integer .ensures .0))
+          (after (month .put-natural .ensures .0) (after (day .put-natural2 .ensures .0) (nothing _ _))),
       omega arith,
     )
 

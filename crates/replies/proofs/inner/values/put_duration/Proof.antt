@@ -21,7 +21,8 @@ returns c =
     let m : toZ w64 (ofZ w64 (d .months)) ≡ d .months = search needs in
     let w : toZ w64 (ofZ w64 (d .weeks)) ≡ d .weeks = search needs in
     let n : toZ w64 (ofZ w64 (d .days)) ≡ d .days = search (needs, years .before .struct-told .given) in (
-      rw (y, m, w, n) at (after (years .put-integer .ensures .0) (after (months .put-integer2 .ensures .0) (after (weeks .put-integer3 .ensures .0) (after (days .put-integer4 .ensures .0) (nothing _ _))))),
+      rw (y, m, w, n) at (after (years .put-integer .ensures .0) (after (months .put-integer2 .ensures .0)
+          (after (weeks .put-integer3 .ensures .0) (after (days .put-integer4 .ensures .0) (nothing _ _))))),
       omega arith,
     )
 

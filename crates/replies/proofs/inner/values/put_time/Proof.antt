@@ -29,7 +29,8 @@ returns c =
     let second = millisecond .before .before .before .before .before in
     let minute = second .before .before .before .before .before in
     let hour = minute .before .before .before .before .before in
-    let later = after (millisecond .put-natural4 .ensures .0) (after (microsecond .put-natural5 .ensures .0) (after (nanosecond .put-natural6 .ensures .0) (nothing _ _))) in (
+    let later = after (millisecond .put-natural4 .ensures .0) (after (microsecond .put-natural5 .ensures .0)
+    (after (nanosecond .put-natural6 .ensures .0) (nothing _ _))) in (
       after (hour .put-natural .ensures .0) (after (minute .put-natural2 .ensures .0) (after (second .put-natural3 .ensures .0) later)),
       omega (arith, hour .put-natural .ensures, minute .put-natural2 .ensures),
     )
