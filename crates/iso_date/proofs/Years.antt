@@ -29,10 +29,6 @@ pub start-high : (u : ℕ) → 400 * yearStart u ≤ 146097 * u + 699
 unfolding yearStart
 start-high u = omega (arith, fewer u)
 
-pub start-below : (u : ℕ) → yearStart u ≤ 366 * u
-unfolding yearStart
-start-below u = omega (arith, fewer u)
-
 abbrev pub leapOf : ℕ → Bool
 leapOf u = eqb (u % 4) 0 && (not (eqb (u % 100) 0) || eqb (u % 400) 0)
 
@@ -56,9 +52,6 @@ biased-leap u k =
     let b : (u + (100 - (400 * k) % 100)) % 100 ≡ u % 100 = omega arith in
     let e : (u + (400 - (400 * k) % 400)) % 400 ≡ u % 400 = omega arith in
     simp (whole, a, b, e)
-
-pub any-year : (y : ℤ) → y ≡ (up y + 399 * dn y) ⊖ (400 * dn y)
-any-year y = parts y ∙ ⊖-same (up y) (dn y) (up y + 399 * dn y) (400 * dn y) (omega arith)
 
 -- ---- the next year starts after the days of this one
 

@@ -11,14 +11,12 @@ use Rattle.options.specs.Units.{nsPerDay}
 use Rattle.whole.specs.Whole.{apart, _⊖_}
 use Rattle.whole.proofs.Laws.{up, dn, ints, read-add, read-neg, read-times, read-diff, fdiv-unique}
 use Rattle.whole.proofs.Tests.{alike, and-false}
-use Rattle.iso_date.specs.Proposal.{date, epochDays, epochDaysToISODate, isValidISODate, constrainISODate}
-use Rattle.iso_date.specs.Inner.{dayBias}
+use Rattle.iso_date.specs.Proposal.{date, epochDays, isValidISODate, constrainISODate}
 use Rattle.iso_date.specs.declared.IsoDate.{IsoDate}
-use Rattle.iso_date.proofs.Dates.{read-valid, back-valid}
+use Rattle.iso_date.proofs.Dates.{read-valid}
 use Rattle.iso_time.specs.Proposal.{nanoseconds, inSeconds}
 use Rattle.iso_time.proofs.Checks.{duration as span, cut-below}
 use Rattle.date_duration.specs.Proposal.{duration}
-use Rattle.options.specs.declared.Unit.{Unit as TemporalUnit}
 use Rattle.options.specs.declared.Unit.the-variants as U
 use Rattle.date_math.specs.Proposal.{directed, isLater, movedBy, restStart, calendarDateUntil}
 use Rattle.date_math.specs.Inner.{placeOf, yearsIn, monthsIn, weeksIn}

@@ -7,7 +7,7 @@ use borrow.Author.Tests.{leb-true, le-leb, lt-leb}
 use lib.Dec.{leb}
 use lib.IntN.{ℤ, pos, negℤ, _+ℤ_, _-ℤ_, _*ℤ_}
 use lib.Signed.{_≤ℤ_}
-use Rattle.refusal.specs.Answer.{Answer, given, refused, numberOf}
+use Rattle.refusal.specs.Answer.{given, refused}
 use Rattle.whole.specs.Whole.{apart, _⊖_}
 use Rattle.whole.proofs.Laws.{ints, read-add, read-neg, read-diff}
 use Rattle.whole.proofs.Tests.{both}

@@ -1,11 +1,11 @@
 -- How the answer of rounding a date and time comes out of its steps, one law for each way through the code.
 use Prim.Native.Nat.{ℕ, _^_, _<_}
 use native.Mathlib.Omega.{arith}
-use mathlib.Core.Path.{_≡_, refl, sym, _∙_, ap}
+use mathlib.Core.Path.{_≡_, refl, sym, ap}
 use mathlib.Core.Bool.{Bool, true, false}
 use lib.IntN.{ℤ, pos, negℤ, natAbs, _+ℤ_, _*ℤ_, +ℤ-idr}
 use lib.Signed.{_≤ℤ_}
-use Rattle.refusal.specs.Answer.{Answer, given, refused, check, numberOf}
+use Rattle.refusal.specs.Answer.{given, refused, check, numberOf}
 use Rattle.refusal.proofs.Answers.{given-inj, never}
 use Rattle.whole.proofs.Laws.{ints, size-of, range-of, read-add}
 use Rattle.iso_date.specs.Proposal.{epochDays, epochDaysToISODate, isValidISODate}

@@ -1,5 +1,4 @@
 -- A month outside 1 to 12 is refused, the others have the length of the definition.
-use borrow.Author.Needs.{needs}
 use mir.Facts.{toZ-ofZ}
 use Rattle.iso_date.proofs.Answers.{no-month, a-month, month-length}
 use Rattle.iso_date.proofs.iso_days_in_month.Statement.{statement}

@@ -16,9 +16,6 @@ abbrev μ-loop : tie.MeasureT-loop
 loop-holds : tie.Need-loop-holds Inv-loop μ-loop
 loop-holds c = (omega arith, (omega arith, refl))
 
-shared-slice-read-b : tie.Need-shared-slice-read-b Inv-loop μ-loop
-shared-slice-read-b c = omega arith
-
 returns : tie.Need-returns Inv-loop μ-loop
 returns c =
     let s = c .before .before .before .before .args .text .now in
@@ -34,26 +31,11 @@ returns-2 c =
 cast-digit : tie.Need-cast-digit Inv-loop μ-loop
 cast-digit c = omega (arith, c .before .before .shared-slice-known .given 0)
 
-sub-if3 : tie.Need-sub-if3 Inv-loop μ-loop
-sub-if3 c = omega arith
-
 returns-3 : tie.Need-returns-3 Inv-loop μ-loop
 returns-3 c =
     let s = c .before .before .before .before .before .before .args .text .now in
     let l = c .before .before .before .before .before .loop in
     sym (too-large s (l .at) (l .value) (c .before .before .before .before .loop-test .taken) (omega arith)) ∙ l .inv .1 .1
-
-mul-value : tie.Need-mul-value Inv-loop μ-loop
-mul-value c = omega arith
-
-add-value : tie.Need-add-value Inv-loop μ-loop
-add-value c = omega arith
-
-add-at : tie.Need-add-at Inv-loop μ-loop
-add-at c = omega arith
-
-loop-less : tie.Need-loop-less Inv-loop μ-loop
-loop-less c = omega arith
 
 loop-again : tie.Need-loop-again Inv-loop μ-loop
 loop-again c =
@@ -70,5 +52,5 @@ returns-4 c =
 pub digits-value-spec : {M : Type 1} → statement M
 digits-value-spec =
     tie.close
-    (tie.spec Inv-loop μ-loop loop-holds shared-slice-read-b returns returns-2 cast-digit sub-if3 returns-3 mul-value add-value add-at loop-less
-    loop-again returns-4)
+    (tie.spec Inv-loop μ-loop loop-holds (λ c. omega arith) returns returns-2 cast-digit (λ c. omega arith) returns-3 (λ c. omega arith)
+    (λ c. omega arith) (λ c. omega arith) (λ c. omega arith) loop-again returns-4)

@@ -5,7 +5,7 @@ use mathlib.Core.Path.{_≡_, _∙_, ap}
 use mir.Facts.{toZ-ofZ, toZ-pos, sfits-widen}
 use mir.Syntax.{w32, w64}
 use mir.Val.{toZ, SFits}
-use Prim.Native.Nat.{_<_, _^_}
+use Prim.Native.Nat.{_<_}
 use lib.IntN.{pos, natAbs, _+ℤ_}
 use Rattle.whole.specs.Whole.{_⊖_}
 use Rattle.iso_date.specs.Inner.{yearBias, monthBias}

@@ -7,9 +7,6 @@ use lib.IntN.{+ℤ-idr}
 use Rattle.iso_date.proofs.IsoDate.try_balance.Statement.{statement}
 use Rattle.iso_date.proofs.IsoDate.try_balance.Tie as tie
 
-balance-sum-requires : tie.Need-balance-sum-requires
-balance-sum-requires c κs = omega arith
-
 returns : tie.Need-returns
 returns c =
     let f = c .before .fits in
@@ -17,4 +14,4 @@ returns c =
     ap (balanceDate (c .before .args .year) (c .before .args .month)) (+ℤ-idr (c .before .args .day))
 
 pub try-balance-spec : {M : Type 1} → statement M
-try-balance-spec = tie.close (tie.spec balance-sum-requires returns)
+try-balance-spec = tie.close (tie.spec (λ c κs. omega arith) returns)

@@ -1,6 +1,5 @@
 -- The sum has room in 64 bits, so it is the exact count.
 use borrow.Author.Needs.{needs}
-use mathlib.Core.Path.{_∙_}
 use mir.Facts.{toZ-ofZ}
 use Rattle.iso_date.proofs.Answers.{weeks-fit, days-fit, moved-fits}
 use Rattle.iso_date.proofs.inner.add_days.Statement.{statement}

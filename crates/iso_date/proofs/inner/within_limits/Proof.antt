@@ -1,14 +1,10 @@
 -- Noon of a day lies between the two moments just where the day is one of -100,000,001 to 100,000,000.
 use borrow.Author.Needs.{needs}
-use native.Mathlib.Omega.{arith}
-use mathlib.Core.Path.{sym, _∙_, ap}
+use mathlib.Core.Path.{_∙_, ap}
 use mir.Facts.{toZ-ofZ}
-use mir.Syntax.{w64}
-use mir.Val.{SFits}
 use lib.IntN.{ℤ}
-use Rattle.whole.proofs.Laws.{ints}
 use Rattle.iso_date.specs.Proposal.{momentWithinLimits, noon}
-use Rattle.iso_date.proofs.Answers.{limits-low, limits-decide}
+use Rattle.iso_date.proofs.Answers.{limits-decide}
 use Rattle.iso_date.proofs.inner.within_limits.Statement.{statement}
 use Rattle.iso_date.proofs.inner.within_limits.Tie as tie
 

@@ -14,14 +14,8 @@ Inv-loop n count₀ left₀ count left = (left ≤ n) × (count + length (digits
 abbrev μ-loop : tie.MeasureT-loop
 μ-loop n count₀ left₀ count left = left
 
-loop-holds : tie.Need-loop-holds Inv-loop μ-loop
-loop-holds c = omega arith
-
 add-count : tie.Need-add-count Inv-loop μ-loop
 add-count c = omega (arith, few-digits 20 19 (c .before .before .args .n) (omega arith))
-
-loop-less : tie.Need-loop-less Inv-loop μ-loop
-loop-less c = omega arith
 
 loop-again : tie.Need-loop-again Inv-loop μ-loop
 loop-again c = omega (arith, count-more (c .before .loop .left) (omega arith) (c .loop-test .taken))
@@ -31,4 +25,4 @@ returns c = omega (arith, count-one (c .before .loop .left) (c .loop-test .left)
 
 pub digit-count-spec : {M : Type 1} → statement M
 digit-count-spec =
-    tie.close (tie.spec Inv-loop μ-loop loop-holds add-count loop-less loop-again returns)
+    tie.close (tie.spec Inv-loop μ-loop (λ c. omega arith) add-count (λ c. omega arith) loop-again returns)

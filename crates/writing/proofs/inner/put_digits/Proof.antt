@@ -19,34 +19,16 @@ Inv-loop out₀ at n end left₀ i₀ out left i =
 abbrev μ-loop : tie.MeasureT-loop
 μ-loop out₀ at n end left₀ i₀ out left i = left
 
-digit-count-requires : tie.Need-digit-count-requires Inv-loop μ-loop
-digit-count-requires c κs = search needs
-
-add-end : tie.Need-add-end Inv-loop μ-loop
-add-end c = omega arith
-
 sub-i : tie.Need-sub-i Inv-loop μ-loop
 sub-i c = omega (arith, some-digit 19 (c .before .before .args .n))
 
 loop-holds : tie.Need-loop-holds Inv-loop μ-loop
 loop-holds c = (omega arith, (omega (arith, some-digit 19 (c .before .before .args .n)), (omega arith, (refl, refl))))
 
-cast-out : tie.Need-cast-out Inv-loop μ-loop
-cast-out c = omega arith
-
-add-out : tie.Need-add-out Inv-loop μ-loop
-add-out c = omega arith
-
-slice-write-out : tie.Need-slice-write-out Inv-loop μ-loop
-slice-write-out c = omega arith
-
 sub-i-2 : tie.Need-sub-i-2 Inv-loop μ-loop
 sub-i-2 c =
     let left = c .before .loop .left in
     omega (arith, count-more left (omega arith) (c .loop-test .taken), some-digit 19 (left / 10))
-
-loop-less : tie.Need-loop-less Inv-loop μ-loop
-loop-less c = omega arith
 
 loop-again : tie.Need-loop-again Inv-loop μ-loop
 loop-again c =
@@ -64,15 +46,6 @@ loop-again c =
       ),
     )
 
-cast-out-2 : tie.Need-cast-out-2 Inv-loop μ-loop
-cast-out-2 c = omega arith
-
-add-out-2 : tie.Need-add-out-2 Inv-loop μ-loop
-add-out-2 c = omega arith
-
-slice-write-out-2 : tie.Need-slice-write-out-2 Inv-loop μ-loop
-slice-write-out-2 c = omega arith
-
 same-length : tie.Need-same-length Inv-loop μ-loop
 same-length c = simp length-set (c .before .loop .inv .1 .1 .1 .0)
 
@@ -87,5 +60,5 @@ returns c =
 pub put-digits-spec : {M : Type 1} → statement M
 put-digits-spec =
     tie.close
-    (tie.spec Inv-loop μ-loop digit-count-requires add-end sub-i loop-holds cast-out add-out slice-write-out sub-i-2 loop-less loop-again cast-out-2
-    add-out-2 slice-write-out-2 same-length returns)
+    (tie.spec Inv-loop μ-loop (λ c κs. search needs) (λ c. omega arith) sub-i loop-holds (λ c. omega arith) (λ c. omega arith) (λ c. omega arith)
+    sub-i-2 (λ c. omega arith) loop-again (λ c. omega arith) (λ c. omega arith) (λ c. omega arith) same-length returns)

@@ -25,9 +25,6 @@ returns c =
       omega (arith, d .put-digits .ensures .ends, few-digits 20 18 (d .before .to-depth .result + 1) (omega arith)),
     )
 
-to-natural-requires : tie.Need-to-natural-requires
-to-natural-requires c κs = omega (arith, ints)
-
 put-digits-requires-2 : tie.Need-put-digits-requires-2
 put-digits-requires-2 c κs = omega (arith, few-digits 20 19 (c .to-natural .result) (omega arith))
 
@@ -44,4 +41,4 @@ pub put-integer-spec : {M : Type 1} → statement M
 put-integer-spec =
     tie.close
     (tie.spec (λ c κs. search needs) (λ c κs. search needs) (λ c κs. search needs) (λ c. search needs) put-digits-requires (λ c. search needs) returns
-    to-natural-requires put-digits-requires-2 (λ c. search needs) returns-2)
+    (λ c κs. omega (arith, ints)) put-digits-requires-2 (λ c. search needs) returns-2)

@@ -24,16 +24,13 @@ returns c =
     (ap (shown dateTimeValues) (rw (
       toZ-ofZ {w = w32} {z = n0 .int .result} (record { sfits = n0 .int .ok }),
       toZ-ofZ {w = w32} {z = n1 .int2 .result} (record { sfits = n1 .int2 .ok }),
-      toZ-ofZ {w = w64} {z = n2 .long .result}
-          (record { sfits = n2 .long .ok }),
+      toZ-ofZ {w = w64} {z = n2 .long .result} (record { sfits = n2 .long .ok }),
       toZ-ofZ {w = w64} {z = n3 .long2 .result} (record { sfits = n3 .long2 .ok }),
       toZ-ofZ {w = w64} {z = n4 .long3 .result} (record { sfits = n4 .long3 .ok }),
-      toZ-ofZ {w = w64} {z = n5 .long4 .result}
-          (record { sfits = n5 .long4 .ok }),
+      toZ-ofZ {w = w64} {z = n5 .long4 .result} (record { sfits = n5 .long4 .ok }),
       toZ-ofZ {w = w64} {z = n6 .long5 .result} (record { sfits = n6 .long5 .ok }),
       toZ-ofZ {w = w64} {z = n7 .long6 .result} (record { sfits = n7 .long6 .ok }),
-      toZ-ofZ {w = w64} {z = n8 .long7 .result}
-          (record { sfits = n8 .long7 .ok }),
+      toZ-ofZ {w = w64} {z = n8 .long7 .result} (record { sfits = n8 .long7 .ok }),
       n0 .int .ensures,
       n1 .int2 .ensures,
       n2 .long .ensures,

@@ -18,8 +18,7 @@ returns c =
     (ap (shown dateValues) (rw (
       toZ-ofZ {w = w32} {z = n0 .int .result} (record { sfits = n0 .int .ok }),
       toZ-ofZ {w = w32} {z = n1 .int2 .result} (record { sfits = n1 .int2 .ok }),
-      toZ-ofZ {w = w64} {z = n2 .long .result}
-          (record { sfits = n2 .long .ok }),
+      toZ-ofZ {w = w64} {z = n2 .long .result} (record { sfits = n2 .long .ok }),
       n0 .int .ensures,
       n1 .int2 .ensures,
       n2 .long .ensures,
