@@ -26,8 +26,8 @@ fn main() {
     answer_all(&table, &mut block, &mut line, &mut out);
 }
 
-// Reads block by block to the input's end, and stops before it at a write that fails, or a read that is not to be tried again. A loop has to end, and nothing
-// says that the input does, so the turns are counted down from a number that no run uses up.
+// Reads block by block to the input's end, and stops before it at a write that fails, or a read that is not to be tried again. A loop
+// has to end, and nothing says that the input does, so the turns are counted down from a number that no run uses up.
 fn answer_all(table: &[u8], block: &mut [u8], line: &mut [u8], out: &mut [u8])
     requires { ⌜ Spells (now table) × ((length (now line) ≡ lineRoom) × (responseRoom ≤ length (now out))) ⌝ }
 {

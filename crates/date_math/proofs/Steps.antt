@@ -24,12 +24,12 @@ use Rattle.date_math.proofs.Places.{directed-none}
 
 -- ---- a count with its sign
 
-pub shifted-is : (forward : Bool) (from months : ℕ) → forward ≡ true → (from + months) ⊖ 0 ≡ (from ⊖ 0) +ℤ directed forward months
-shifted-is forward from months e = rw e (simp whole (omega arith))
+pub reached-on : (forward : Bool) (from months : ℕ) → forward ≡ true → (from + months) ⊖ 0 ≡ (from ⊖ 0) +ℤ directed forward months
+reached-on forward from months e = rw e (simp whole (omega arith))
 
-pub shifted-back : (forward : Bool) (from months : ℕ) → forward ≡ false → months ≤ from →
+pub reached-back : (forward : Bool) (from months : ℕ) → forward ≡ false → months ≤ from →
     (from - months) ⊖ 0 ≡ (from ⊖ 0) +ℤ directed forward months
-shifted-back forward from months e h = rw e (simp whole (omega arith))
+reached-back forward from months e h = rw e (simp whole (omega arith))
 
 pub directed-is : (forward : Bool) (n : ℕ) → cond forward (pos n) (negℤ (pos n)) ≡ directed forward n
 directed-is true n = refl

@@ -19,7 +19,7 @@ use whole::inner::directed;
 use whole::inner::raise;
 ghost use mathlib.Core.Path.{_≡_};
 ghost use mathlib.Core.Bool.{true};
-ghost use Prim.Native.Nat.{_+_, _-_, _*_, _/_, _^_, _<_, _≤_};
+ghost use Prim.Native.Nat.{_+_, _*_, _/_, _^_, _<_, _≤_};
 ghost use lib.IntN.{natAbs, _+ℤ_};
 ghost use Rattle.whole.specs.Whole.{_⊖_};
 ghost use Rattle.iso_date.specs.Proposal.{isValidISODate, epochDays};
@@ -50,7 +50,7 @@ pub fn moved(date: IsoDate, years: i64, months: i64, overflow: Overflow) -> Date
     )
 }
 
-// Places are compared where dates would be: their order is that of the triples.
+// The place of a date, as a natural. Places are compared where dates would be: their order is that of the triples.
 pub fn place(date: IsoDate) -> u64
     requires { ⌜ isValidISODate date ≡ true ⌝ }
     ensures { λ r. ⌜ (placeOf date ≡ r ⊖ placeBias) × ((2 ^ 41 ≤ r) × (r < 2 ^ 42)) ⌝ }
@@ -58,7 +58,8 @@ pub fn place(date: IsoDate) -> u64
     PLACES_PER_YEAR * year_up(date.year) + PLACES_PER_MONTH * date.month as u64 + date.day as u64
 }
 
-// The candidate years are tried from one less than the years that the dates are apart, which cannot have passed.
+// The most years within a gap of places. The candidates are tried from one less than the years that the dates are apart, which cannot
+// have passed.
 fn kept_years(gap: u64, years: u64) -> u64
     requires { ⌜ (384 * years < gap + 384) × (gap < 2 ^ 42) ⌝ }
     ensures { λ r. ⌜ r ≡ gap / 384 ⌝ }
@@ -75,7 +76,7 @@ fn kept_years(gap: u64, years: u64) -> u64
     }
 }
 
-// The candidate months are tried from one on.
+// The most months within a gap that is less than a year. The candidates are tried from one on.
 fn kept_months(gap: u64) -> u64
     requires { ⌜ gap < 384 ⌝ }
     ensures { λ r. ⌜ r ≡ gap / 32 ⌝ }
@@ -122,7 +123,7 @@ fn years_and_months(unit: Unit, gap: u64, years: u64) -> Trial
 }
 
 // The month reached, forward or backward. So many months lie before every date that the count stays a natural.
-fn shifted(forward: bool, from: u64, months: u64) -> u64
+fn month_reached(forward: bool, from: u64, months: u64) -> u64
     requires { ⌜ (months ≤ from) × (from < 2 ^ 60) ⌝ }
     ensures { λ r. ⌜ ((r ⊖ 0) ≡ (from ⊖ 0) +ℤ directed forward months) × (r ≤ from + months) ⌝ }
 {
@@ -137,7 +138,7 @@ fn rest_start(date: IsoDate, forward: bool, months: u64) -> u64
     requires { ⌜ (isValidISODate date ≡ true) × (months < 2 ^ 36) ⌝ }
     ensures { λ r. ⌜ (epochDays (restStart forward date 0 months) ≡ r ⊖ dayBias) × (r < 2 ^ 51) ⌝ }
 {
-    let month = shifted(
+    let month = month_reached(
         forward,
         12 * year_up(date.year) + (date.month as u64 - 1),
         months,

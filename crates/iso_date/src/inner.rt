@@ -3,10 +3,9 @@
 use crate::DateResult;
 use crate::IsoDate;
 ghost use mathlib.Core.Path.{_≡_};
-ghost use mathlib.Core.Bool.{cond};
-ghost use Prim.Native.Nat.{_+_, _-_, _*_, _<_, _≤_, _^_};
+ghost use mathlib.Core.Bool.{true, cond};
+ghost use Prim.Native.Nat.{_+_, _-_, _<_, _≤_, _^_};
 ghost use lib.ListN.{getD};
-ghost use mathlib.Core.Bool.{true};
 ghost use lib.IntN.{pos, negℤ, natAbs, _+ℤ_, _-ℤ_, _*ℤ_};
 ghost use Rattle.whole.specs.Whole.{_⊖_, fmod, clampZ};
 ghost use Rattle.iso_date.specs.Proposal.{leapYear, monthLengths, isoDaysInMonth, daysBeforeMonth, dayFromMonth, isValidISODate};
@@ -14,12 +13,15 @@ ghost use Rattle.iso_date.specs.Proposal.{epochDays, epochDaysToISODate,
 ghost use Rattle.iso_date.specs.Paper.{ofDate, balanced, dayToDate, balanceDate};
 ghost use Rattle.iso_date.specs.Inner.{yearBias, monthBias, dayBias, yearStart, YearHolds, MonthHolds, Balances};
 
+// What a year is raised by.
 pub const YEAR_BIAS: u64 = 8_000_000_000;
 // The days from the first day of year -YEAR_BIAS to 1970-01-01: 20,000,000 times 146,097 days of 400 years, and 719,528.
 pub const DAY_BIAS: u64 = 2_921_940_719_528;
 
-// As many months as lie in 400,000,000 years, so that a month of 32 bits, or one moved by a duration, is a natural.
+// As many months as lie in so many years, so that a month of 32 bits, or one moved by a duration, is a natural.
 pub const MONTH_BIAS: u64 = 4_800_000_000;
+
+const MONTH_BIAS_YEARS: u64 = 400_000_000;
 
 // A day count is balanced up to this size.
 const MOST_BALANCED: i64 = 100_000_001;
@@ -38,7 +40,7 @@ const MONTH_LENGTHS: [u8; 12] = [31, 28, 31, 30, 31, 30, 31, 31, 30, 31, 30, 31]
 // The days of a common year before each of its months.
 const DAYS_BEFORE: [u16; 12] = [0, 31, 59, 90, 120, 151, 181, 212, 243, 273, 304, 334];
 
-// Raised so, every year of 32 bits is a natural, and a leap year by the same rule.
+// A year as a natural, which the leap rule takes as it takes the year itself.
 pub fn year_up(year: i32) -> u64
     ensures { λ r. ⌜ (year ≡ r ⊖ yearBias) × ((r < 2 ^ 31 + yearBias) × (yearBias ≤ r + 2 ^ 31)) ⌝ }
 {
@@ -102,9 +104,9 @@ pub fn month_start(u: u64, i: u64) -> u64
     year_start(u) + days_before(leap, i)
 }
 
-// The year that holds day n, from the mean length of a year, 146,097 / 400 days. A year starts less than one day (396 / 400) before
-// its start by the mean, so that by day n + 1 its start by the mean is over too: the estimate is never early. It starts less than two
-// days (699 / 400) after that, so that the estimate is at most one year late.
+// The year that holds day n, from the mean length of a year, 146,097 / 400 days. A year starts at most 99 / 100 of a day before its
+// start by the mean (the centuries' part of `year_start`), so that by day n + 1 its start by the mean has come too: the estimate is never
+// early. It starts at most 3 / 4 + 399 / 400 of a day after that (the parts by 4 and 400), so that the estimate is at most a year late.
 pub fn year_of(n: u64) -> u64
     requires { ⌜ (n < 2 ^ 48) × (146097 ≤ n) ⌝ }
     ensures { λ r. ⌜ YearHolds n r ⌝ }
@@ -167,7 +169,7 @@ pub fn balance_up(u: u64, m: u64) -> UpMonth
 {
     let k = m - 1;
     UpMonth {
-        year: u + k / 12 - 400_000_000,
+        year: u + k / 12 - MONTH_BIAS_YEARS,
         index: k % 12,
     }
 }

@@ -1,4 +1,4 @@
-// Dates of the ISO calendar: day counts and month lengths, the year-month balance, regulating and the limits.
+// Dates of the ISO calendar: day counts and month lengths, the year-month balance, regulating, making, the limits and balancing.
 pub mod inner;
 
 use options::Overflow;

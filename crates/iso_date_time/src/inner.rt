@@ -1,4 +1,4 @@
-// Moments as a day and a nanosecond of the day, both naturals.
+// Moments as a day and a nanosecond of the day. In differences and for an instant both are naturals.
 use crate::DateTimeResult;
 use crate::InternalDurationRecord;
 use crate::IsoDateTime;
@@ -17,7 +17,7 @@ use whole::inner::raise;
 use whole::inner::to_natural;
 ghost use mathlib.Core.Path.{_≡_};
 ghost use mathlib.Core.Bool.{true};
-ghost use Prim.Native.Nat.{_+_, _-_, _*_, _/_, _%_, _^_, _<_, _≤_};
+ghost use Prim.Native.Nat.{_+_, _-_, _*_, _^_, _<_, _≤_};
 ghost use lib.IntN.{natAbs};
 ghost use Rattle.options.specs.Units.{nsPerDay};
 ghost use Rattle.refusal.specs.Answer.{check, given};
@@ -33,10 +33,10 @@ ghost use Rattle.iso_date_time.specs.Inner.{Adjusts};
 const NS_PER_DAY: u64 = 86_400_000_000_000;
 
 // The same with a sign, for the bounds of what is handed in.
-const DAY: i64 = 86_400_000_000_000;
+const NS_PER_DAY_SIGNED: i64 = 86_400_000_000_000;
 
 // An instant lies at most so many days from the epoch, and the limits of a moment a day further, both ends outside.
-const MOST_DAYS: i64 = 100_000_000;
+const MOST_INSTANT_DAYS: i64 = 100_000_000;
 
 const NS_PER_SECOND: u64 = 1_000_000_000;
 
@@ -49,7 +49,9 @@ pub fn within_limits(date: IsoDate, time: IsoTime) -> bool
 {
     let day = iso_date::inner::epoch_days(date);
     let ns = nanoseconds_of(time);
-    (-MOST_DAYS - 1 <= day) & (day <= MOST_DAYS) & ((-MOST_DAYS <= day) | (0 < ns))
+    (-MOST_INSTANT_DAYS - 1 <= day)
+        & (day <= MOST_INSTANT_DAYS)
+        & ((-MOST_INSTANT_DAYS <= day) | (0 < ns))
 }
 
 // A record held to the limits (3).
@@ -165,24 +167,25 @@ pub fn difference(one: IsoDateTime, two: IsoDateTime, unit: Unit) -> InternalDur
     }
 }
 
-// Whether a day and a nanosecond of the day are an instant: at most 10^8 days from the epoch.
+// Whether a day and a nanosecond of the day are an instant: at most 10^8 days from the epoch, on the last day midnight alone.
 pub fn is_instant(day: i64, nanosecond: i64) -> bool
     ensures { λ r. ⌜ r ≡ isInstant day nanosecond ⌝ }
 {
     (0 <= nanosecond)
-        & (nanosecond < DAY)
-        & (-MOST_DAYS <= day)
-        & ((day < MOST_DAYS) | ((day <= MOST_DAYS) & (nanosecond <= 0)))
+        & (nanosecond < NS_PER_DAY_SIGNED)
+        & (-MOST_INSTANT_DAYS <= day)
+        & ((day < MOST_INSTANT_DAYS) | ((day <= MOST_INSTANT_DAYS) & (nanosecond <= 0)))
 }
 
 // Whether an offset is below one day in size.
 pub fn is_offset(offset: i64) -> bool
     ensures { λ r. ⌜ r ≡ isOffset offset ⌝ }
 {
-    (-DAY < offset) & (offset < DAY)
+    (-NS_PER_DAY_SIGNED < offset) & (offset < NS_PER_DAY_SIGNED)
 }
 
-// The record of an instant at an offset. Day and nanosecond are raised by a day, so that the sum with the offset is a natural.
+// The record of an instant at an offset. The offset is raised by a day, so that its sum with the nanosecond is a natural; the day number
+// gives that day back.
 pub fn from_instant(day: i64, nanosecond: i64, offset: i64) -> IsoDateTime
     requires { ⌜ (isInstant day nanosecond ≡ true) × (isOffset offset ≡ true) ⌝ }
     ensures { λ r. ⌜ r ≡ withOffset (getISOPartsFromEpoch day (natAbs nanosecond)) offset ⌝ }

@@ -95,6 +95,7 @@ impl IsoDateTime {
         match time.round(unit, increment, mode) {
             BalanceResult::Refused(n) => DateTimeResult::Refused(n),
             BalanceResult::Balanced(b) => {
+                // A day more than one within the limits is in the balanced range: this never refuses.
                 let DateResult::Date(day) = iso_date::inner::add_days(date, 0, b.days) else {
                     return DateTimeResult::Refused(refusal::DAY_COUNT);
                 };

@@ -24,8 +24,10 @@ const DAYS_BIAS: u64 = 457_625_125_125_125;
 
 const NS_PER_DAY: u64 = 86_400_000_000_000;
 
-// By rank, from year to nanosecond: a unit's length in nanoseconds, and how many of it make the next (a day: itself). 0 for those that a
-// time is not rounded to.
+const NS_PER_SECOND: i64 = 1_000_000_000;
+
+// By rank, from year to nanosecond: a unit's length in nanoseconds, and how many of it make the next, 1 for day, which has no next.
+// 0 for those that a time is not rounded to.
 const LENGTHS: [u64; 10] = [
     0,
     0,
@@ -139,14 +141,14 @@ fn quantity_of(unit: Unit, t: IsoTime) -> u64
 pub fn is_increment(unit: Unit, increment: u64) -> bool
     ensures { λ r. ⌜ r ≡ validIncrement unit increment ⌝ }
 {
-    let whole = dividend_of(unit);
-    if whole == 1 {
+    let dividend = dividend_of(unit);
+    if dividend == 1 {
         return increment == 1;
     }
-    if (increment == 0) | (whole <= increment) {
+    if (increment == 0) | (dividend <= increment) {
         return false;
     }
-    whole % increment == 0
+    dividend % increment == 0
 }
 
 // A time rounded at a unit, with the day that may be over. The larger fields stay: the quantity is taken out of the time, rounded, and
@@ -178,7 +180,7 @@ pub fn span(one: u64, two: u64) -> TimeDuration
 {
     let n = two as i64 - one as i64;
     TimeDuration {
-        seconds: n / 1_000_000_000,
-        nanoseconds: n % 1_000_000_000,
+        seconds: n / NS_PER_SECOND,
+        nanoseconds: n % NS_PER_SECOND,
     }
 }

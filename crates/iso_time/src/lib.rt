@@ -47,8 +47,8 @@ pub enum SpanResult {
     Refused(u8),
 }
 
-// The largest size of a field to be balanced.
-const MOST: i64 = 9_007_199_254_740_991;
+// The largest size of a field to be balanced, 2^53 - 1.
+const MOST_FIELD: i64 = 9_007_199_254_740_991;
 
 fn least8(a: u8, b: u8) -> u8
     ensures { λ r. ⌜ r ≡ min a b ⌝ }
@@ -80,7 +80,7 @@ fn constrain(t: IsoTime) -> IsoTime
 fn is_bounded(x: i64) -> bool
     ensures { λ r. ⌜ r ≡ bounded x ⌝ }
 {
-    (-MOST <= x) & (x <= MOST)
+    (-MOST_FIELD <= x) & (x <= MOST_FIELD)
 }
 
 fn are_bounded(

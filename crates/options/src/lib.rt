@@ -37,10 +37,10 @@ impl Unit {
         ensures { λ r. ⌜ r ≡ unitRank self ⌝ }
     {
         match self {
-            Unit::Year => 0,
-            Unit::Month => 1,
-            Unit::Week => 2,
-            Unit::Day => 3,
+            Unit::Year => YEAR_RANK,
+            Unit::Month => MONTH_RANK,
+            Unit::Week => WEEK_RANK,
+            Unit::Day => DAY_RANK,
             Unit::Hour => 4,
             Unit::Minute => 5,
             Unit::Second => 6,

@@ -10,9 +10,9 @@ pub const DATETIME_LIMITS: u8 = 3;
 pub const DAY_COUNT: u8 = 4;
 // This call does not work in that unit.
 pub const UNIT: u8 = 5;
-// The unit has no such increment.
+// The unit has no such increment, or the step of the number rounder is 0.
 pub const INCREMENT: u8 = 6;
-// A number that stands for nothing else exceeds its own bound.
+// A plain number is outside its bound: a field of a time to be balanced, a part of an instant, the result of the number rounder.
 pub const BOUND: u8 = 7;
 // The parts make no duration.
 pub const DURATION: u8 = 8;

@@ -10,36 +10,50 @@ ghost use Rattle.rounding.specs.Inner.{modeRow, signColumn, takesUp, siz
 
 // The rule for a size between two multiples, by mode and sign: the first column is for positive numbers, the second for negative ones.
 const RULES: [[UnsignedRoundingMode; 2]; 9] = [
+    // ceil
     [UnsignedRoundingMode::Infinity, UnsignedRoundingMode::Zero],
+    // floor
     [UnsignedRoundingMode::Zero, UnsignedRoundingMode::Infinity],
+    // expand
     [
         UnsignedRoundingMode::Infinity,
         UnsignedRoundingMode::Infinity,
     ],
+    // trunc
     [UnsignedRoundingMode::Zero, UnsignedRoundingMode::Zero],
+    // half-ceil
     [
         UnsignedRoundingMode::HalfInfinity,
         UnsignedRoundingMode::HalfZero,
     ],
+    // half-floor
     [
         UnsignedRoundingMode::HalfZero,
         UnsignedRoundingMode::HalfInfinity,
     ],
+    // half-expand
     [
         UnsignedRoundingMode::HalfInfinity,
         UnsignedRoundingMode::HalfInfinity,
     ],
+    // half-trunc
     [
         UnsignedRoundingMode::HalfZero,
         UnsignedRoundingMode::HalfZero,
     ],
+    // half-even
     [
         UnsignedRoundingMode::HalfEven,
         UnsignedRoundingMode::HalfEven,
     ],
 ];
 
-// A size, or one past what the answer can hold.
+// The largest size of an answer above and below zero.
+pub const MOST_ABOVE: u64 = 0x7fff_ffff_ffff_ffff;
+
+pub const MOST_BELOW: u64 = 0x8000_0000_0000_0000;
+
+// A size, or that it is past what the answer can hold.
 pub enum Size {
     Is(u64),
     Past,
@@ -76,8 +90,8 @@ pub fn get_unsigned_round_mode(mode: RoundingMode, negative: bool) -> UnsignedRo
     RULES[i][j]
 }
 
-// Whether the upper of two multiples is taken, by the distance down to the lower one and the distance to the one above. The tie test compares the two
-// distances, so nothing is doubled.
+// Whether the upper of two multiples is taken, by the distance down to the lower one and the distance to the one above. The tie test
+// compares the two distances, so nothing is doubled.
 pub fn takes_up(rule: UnsignedRoundingMode, odd: bool, down: u64, above: u64) -> bool
     ensures { λ r. ⌜ r ≡ takesUp rule odd down above ⌝ }
 {
@@ -138,7 +152,7 @@ pub fn round_size_below(size: u64, step: u64, rule: UnsignedRoundingMode) -> Siz
         return Size::Is(size);
     }
     let up = takes_up(rule, q % 2 == 0, step - left, left);
-    multiple(nearer_zero, step, !up, 0x8000_0000_0000_0000)
+    multiple(nearer_zero, step, !up, MOST_BELOW)
 }
 
 // A size rounded to a step by a rule, where both are small enough that the result is a number of 64 bits.

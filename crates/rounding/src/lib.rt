@@ -1,6 +1,8 @@
 // Rounding of a number to a step, exactly.
 pub mod inner;
 
+use inner::MOST_ABOVE;
+use inner::MOST_BELOW;
 use inner::Size;
 use whole::inner::from_natural;
 use whole::inner::negated;
@@ -37,11 +39,6 @@ pub enum NumberResult {
     Refused(u8),
 }
 
-// The largest size of an answer above and below zero.
-const MOST_ABOVE: u64 = 0x7fff_ffff_ffff_ffff;
-
-const MOST_BELOW: u64 = 0x8000_0000_0000_0000;
-
 // A number rounded to a multiple of the step: by its size, with the rule of its sign. A step of 0 is 6, an exact result that 64 bits
 // with a sign do not hold is 7.
 pub fn round(number: i64, step: u64, mode: RoundingMode) -> NumberResult
@@ -58,7 +55,7 @@ pub fn round(number: i64, step: u64, mode: RoundingMode) -> NumberResult
     positive(inner::round_size(to_natural(number), step, rule, MOST_ABOVE))
 }
 
-// The same with no turn of sign: below zero too the two choices are the floor and the next multiple, by the rule of positive numbers.
+// The same with one rule for both signs: below zero too the two choices are the floor and the next multiple, by the rule of positive numbers.
 pub fn round_as_if_positive(number: i64, step: u64, mode: RoundingMode) -> NumberResult
     ensures { λ r. ⌜ ofNumber r ≡ roundNumberAsIfPositive number step mode ⌝ }
 {
@@ -72,6 +69,7 @@ pub fn round_as_if_positive(number: i64, step: u64, mode: RoundingMode) -> Numbe
     positive(inner::round_size(to_natural(number), step, rule, MOST_ABOVE))
 }
 
+// The answer of a size above zero.
 fn positive(size: Size) -> NumberResult
     requires { ⌜ AtMost (2 ^ 63 - 1) size ⌝ }
     ensures { λ r. ⌜ ofNumber r ≡ positiveSize size ⌝ }
@@ -82,6 +80,7 @@ fn positive(size: Size) -> NumberResult
     }
 }
 
+// And of one below zero.
 fn negative(size: Size) -> NumberResult
     requires { ⌜ AtMost (2 ^ 63) size ⌝ }
     ensures { λ r. ⌜ ofNumber r ≡ negativeSize size ⌝ }

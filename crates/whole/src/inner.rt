@@ -1,4 +1,4 @@
-// Each function asks of its caller that what it gives back fits, and says what that is as a whole number.
+// Each function asks of its caller what it needs to give back a number that fits, and says what that is as a whole number.
 ghost use mathlib.Core.Path.{_≡_};
 ghost use mathlib.Core.Bool.{cond};
 ghost use Prim.Native.Nat.{_+_, _<_, _≤_, _^_};
