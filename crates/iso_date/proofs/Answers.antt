@@ -106,41 +106,39 @@ noon-in n a b =
 
 -- ---- valid fields
 
+pub a-month : (m : ℕ) → (ltb m 1 || ltb 12 m) ≡ false → (1 ≤ m) × (m ≤ 12)
+a-month m e = let g = neither (ltb m 1) (ltb 12 m) e in (ltb-false m 1 (g .0), ltb-false 12 m (g .1))
+
+no-month : (m : ℕ) → (ltb m 1 || ltb 12 m) ≡ true → (leb 1 m && leb m 12) ≡ false
+no-month m e =
+    one-of (ltb m 1) (ltb 12 m) e (λ g. rw (lt-leb 1 m (ltb-true m 1 g))) (λ g. rw (lt-leb m 12 (ltb-true 12 m g)) (and-false (leb 1 m)))
+
 module _ (y : ℤ) (m d : ℕ) where
   pub fields-bad : ((ltb m 1 || ltb 12 m) || ltb d 1) ≡ true → isValidISODate (date y m d) ≡ false
   unfolding isValidISODate
   fields-bad e =
-      one-of (ltb m 1 || ltb 12 m) (ltb d 1) e
-      (λ f. one-of (ltb m 1) (ltb 12 m) f (λ g. simp (lt-leb 1 m (ltb-true m 1 g)))
-      (λ g. let h = ltb-true 12 m g in simp (lt-leb m 12 h, le-leb 1 m (omega arith))))
-      (λ f. simp (lt-leb 1 d (ltb-true d 1 f)) (and-false (leb 1 m && leb m 12)))
+      one-of (ltb m 1 || ltb 12 m) (ltb d 1) e (λ f. rw (no-month m f))
+      (λ f. let h = ltb-true d 1 f in rw (lt-leb 1 d (omega arith)) (and-false (leb 1 m && leb m 12)))
 
   pub in-year : ((ltb m 1 || ltb 12 m) || ltb d 1) ≡ false → (1 ≤ m) × (m ≤ 12)
-  in-year e =
-      let g = neither (ltb m 1) (ltb 12 m) (neither (ltb m 1 || ltb 12 m) (ltb d 1) e .0) in
-      (ltb-false m 1 (g .0), ltb-false 12 m (g .1))
+  in-year e = a-month m (neither (ltb m 1 || ltb 12 m) (ltb d 1) e .0)
 
   pub day-decides : ((ltb m 1 || ltb 12 m) || ltb d 1) ≡ false → leb d (isoDaysInMonth y m) ≡ isValidISODate (date y m d)
   unfolding isValidISODate
   day-decides e =
-      let f = neither (ltb m 1 || ltb 12 m) (ltb d 1) e .1 in
-      simp (le-leb 1 m (in-year e .0), le-leb m 12 (in-year e .1), le-leb 1 d (ltb-false d 1 f))
+      let h = ltb-false d 1 (neither (ltb m 1 || ltb 12 m) (ltb d 1) e .1) in
+      simp (le-leb 1 m (in-year e .0), le-leb m 12 (in-year e .1), le-leb 1 d (omega arith))
 
 -- ---- month lengths
 
 module _ (y : ℤ) (m : ℕ) where
-  pub no-month : (ltb m 1 || ltb 12 m) ≡ true → refused 1 ≡ monthLength y m
+  pub length-refused : (ltb m 1 || ltb 12 m) ≡ true → refused 1 ≡ monthLength y m
   unfolding monthLength
-  no-month e =
-      one-of (ltb m 1) (ltb 12 m) e (λ g. simp (lt-leb 1 m (ltb-true m 1 g)))
-      (λ g. let h = ltb-true 12 m g in simp (lt-leb m 12 h, le-leb 1 m (omega arith)))
-
-  pub a-month : (ltb m 1 || ltb 12 m) ≡ false → (1 ≤ m) × (m ≤ 12)
-  a-month e = let g = neither (ltb m 1) (ltb 12 m) e in (ltb-false m 1 (g .0), ltb-false 12 m (g .1))
+  length-refused e = rw (no-month m e)
 
   pub month-length : (r : ℕ) → (ltb m 1 || ltb 12 m) ≡ false → r ≡ isoDaysInMonth y m → given r ≡ monthLength y m
   unfolding monthLength
-  month-length r e f = let g = a-month e in simp (le-leb 1 m (g .0), le-leb m 12 (g .1), f)
+  month-length r e f = let g = a-month m e in simp (le-leb 1 m (g .0), le-leb m 12 (g .1), f)
 
 -- ---- date to day, and day to date
 

@@ -82,7 +82,7 @@ impl IsoDateTime {
         DateTimeResult::DateTime(IsoDateTime { date, time })
     }
 
-    // The record rounded at a unit: the record (1, 3), the unit (5), the increment (6); a day that is over joins the date, and the
+    // The record rounded at a unit: the record (1, 3), the unit (5), the increment (6); a day that is carried joins the date, and the
     // limits (3) end it.
     pub fn round(self, unit: Unit, increment: u64, mode: RoundingMode) -> DateTimeResult
         ensures { λ r. ⌜ ofDateTime r ≡ roundDateTime self unit increment mode ⌝ }

@@ -82,7 +82,7 @@ pub fn time_at(n: u64) -> IsoTime
     }
 }
 
-// Six fields balanced into days and a time: each carries what is over into the next, rounded down.
+// Six fields balanced into days and a time: what is too much in a field is carried into the next, rounded down.
 pub fn balance(
     hour: i64,
     minute: i64,
@@ -151,7 +151,7 @@ pub fn is_increment(unit: Unit, increment: u64) -> bool
     dividend % increment == 0
 }
 
-// A time rounded at a unit, with the day that may be over. The larger fields stay: the quantity is taken out of the time, rounded, and
+// A time rounded at a unit, with the day that may be carried. The larger fields stay: the quantity is taken out of the time, rounded, and
 // put back.
 pub fn round(t: IsoTime, unit: Unit, increment: u64, mode: RoundingMode) -> BalancedTime
     requires { ⌜ (isValidTime t ≡ true) × ((0 < unitLength unit) × (validIncrement unit increment ≡ true)) ⌝ }

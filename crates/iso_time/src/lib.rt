@@ -20,7 +20,7 @@ pub struct IsoTime {
     pub nanosecond: u16,
 }
 
-// A time with the days that were over.
+// A time with the days that were carried.
 pub struct BalancedTime {
     pub days: i64,
     pub time: IsoTime,
@@ -146,7 +146,7 @@ impl IsoTime {
         }
     }
 
-    // Six fields of any size up to 9,007,199,254,740,991 (else 7) as days and a time; what is over is carried, rounded down.
+    // Six fields of any size up to 9,007,199,254,740,991 (else 7) as a carry in days and a time, rounded down.
     pub fn balance(
         hour: i64,
         minute: i64,
@@ -183,7 +183,7 @@ impl IsoTime {
         SpanResult::Span(inner::span(inner::nanoseconds_of(self), inner::nanoseconds_of(other)))
     }
 
-    // The time rounded at a unit, with the day that may be over: fields (1), a unit above day (5), an increment that is not allowed (6).
+    // The time rounded at a unit, with the day that may be carried: fields (1), a unit above day (5), an increment that is not allowed (6).
     pub fn round(self, unit: Unit, increment: u64, mode: RoundingMode) -> BalanceResult
         ensures { λ r. ⌜ ofBalance r ≡ roundedTime self unit increment mode ⌝ }
     {

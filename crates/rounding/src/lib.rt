@@ -55,7 +55,7 @@ pub fn round(number: i64, step: u64, mode: RoundingMode) -> NumberResult
     positive(inner::round_size(to_natural(number), step, rule, MOST_ABOVE))
 }
 
-// The same with one rule for both signs: below zero too the two choices are the floor and the next multiple, by the rule of positive numbers.
+// The same with one rule for both signs, that of positive numbers: below zero too the two choices are the floor and the next multiple.
 pub fn round_as_if_positive(number: i64, step: u64, mode: RoundingMode) -> NumberResult
     ensures { λ r. ⌜ ofNumber r ≡ roundNumberAsIfPositive number step mode ⌝ }
 {
