@@ -1,0 +1,33 @@
+-- What the answers of the functions that read mean, and what is known of them as numbers.
+use Prim.Native.Nat.{ℕ, _-_, _*_, _^_, _≤_, _<_}
+use mathlib.Core.Path.{_≡_}
+use mathlib.Core.Bool.{cond}
+use mathlib.Core.List.{List}
+use lib.Dec.{eqb}
+use lib.ListN.{length, drop}
+use Rattle.forms.specs.Forms.{Parsed, took, nothing}
+use Rattle.forms.specs.declared.Piece.{Piece}
+use Rattle.forms.specs.declared.Piece.the-variants as P
+
+-- the value, and the text from the place after it on
+abbrev pub ofPiece : List ℕ → Piece → Parsed ℕ
+ofPiece text (P.Is v end) = took v (drop end text)
+ofPiece text P.Not = nothing
+
+abbrev pub valueIn : Piece → ℕ
+valueIn (P.Is v end) = v
+valueIn P.Not = 0
+
+abbrev pub endIn : Piece → ℕ
+endIn (P.Is v end) = end
+endIn P.Not = 0
+
+-- so many digits with that value, as billionths
+abbrev pub filledPiece : ℕ → ℕ → ℕ → Piece
+filledPiece count value end = cond (eqb count 0) P.Not (P.Is (value * 10 ^ (9 - count)) end)
+
+-- a piece as a production takes it off the text, with a bound of its value and an end within the text
+pub record Reads (text : List ℕ) (piece : Parsed ℕ) (bound : ℕ) (r : Piece) : Type 0 where
+  pub reads : ofPiece text r ≡ piece
+  pub small : valueIn r < bound
+  pub inside : endIn r ≤ length text
