@@ -8,7 +8,7 @@ from bisect import bisect_right
 
 I32, I64, U64 = (-2**31, 2**31 - 1), (-2**63, 2**63 - 1), (0, 2**64 - 1)
 U8, U16 = (0, 255), (0, 65535)
-UNIT, MODE, BIT = (0, 9), (0, 8), (0, 1)
+UNIT, MODE, BIT, ROOM = (0, 9), (0, 8), (0, 1), (0, 64)
 RANGE = 100_000_001            # balanced day counts: at most this in size
 BOUND = 2**53 - 1              # fields of a time to be balanced
 NSD = 86_400_000_000_000
@@ -25,7 +25,7 @@ class Refusal(Exception):
         self.number = number
 
 
-R = [Refusal(n) for n in range(9)]
+R = [Refusal(n) for n in range(11)]
 
 
 # ---- module 1
@@ -405,6 +405,83 @@ def datetime_from_instant(day, ns, offset):
     return date_of(day + t[0]) + t[1:]
 
 
+# ---- date text
+# Patterns over bytes: only the ten digits of ASCII are digits, and any byte may stand in a text.
+DATE_FORM = rb'([0-9]{4}|(?!-000000)[+-][0-9]{6})-([0-9]{2})-([0-9]{2})'
+TIME_FORM = rb'([0-9]{2}):([0-9]{2})(?::([0-9]{2})(?:\.([0-9]{1,9}))?)?'
+DATE_TEXT, TIME_TEXT = re.compile(DATE_FORM), re.compile(TIME_FORM)
+DATETIME_TEXT = re.compile(DATE_FORM + b'T' + TIME_FORM)
+LONGEST_TEXT = 64
+
+
+def taken_apart(form, text):
+    """the parts that the form names, each as its digits, or nothing for one that is left out"""
+    match = form.fullmatch(text) if len(text) <= LONGEST_TEXT else None
+    if match is None:
+        raise R[9]
+    return match.groups()
+
+
+def said_time(hour, minute, second, fraction):
+    second = int(second or 0)
+    nanosecond = int((fraction or b'').ljust(9, b'0'))
+    # A clock that counts a leap second shows second 60; it is read as the second before.
+    return (int(hour), int(minute), 59 if second == 60 else second,
+            nanosecond // 1_000_000, nanosecond // 1000 % 1000, nanosecond % 1000)
+
+
+def read_date(text):
+    date = tuple(map(int, taken_apart(DATE_TEXT, text)))
+    date_record(*date)
+    return date
+
+
+def read_time(text):
+    time = said_time(*taken_apart(TIME_TEXT, text))
+    if not valid_time(*time):
+        raise R[1]
+    return time
+
+
+def read_datetime(text):
+    parts = taken_apart(DATETIME_TEXT, text)
+    record = tuple(map(int, parts[:3])) + said_time(*parts[3:])
+    dt_record(record)
+    return record
+
+
+def date_text(y, m, d):
+    year = f'{y:04}' if 0 <= y <= 9999 else f'{y:+07}'
+    return f'{year}-{m:02}-{d:02}'
+
+
+def time_text(h, mi, s, ms, us, ns):
+    fraction = f'.{ms:03}{us:03}{ns:03}'.rstrip('0').rstrip('.')
+    return f'{h:02}:{mi:02}:{s:02}{fraction}'
+
+
+def into(room, text):
+    if len(text) > room:
+        raise R[10]
+    return (text,)
+
+
+def write_date(y, m, d, room):
+    date_record(y, m, d)
+    return into(room, date_text(y, m, d))
+
+
+def write_time(*a):
+    if not valid_time(*a[:6]):
+        raise R[1]
+    return into(a[6], time_text(*a[:6]))
+
+
+def write_datetime(*a):
+    dt_record(a)
+    return into(a[9], date_text(*a[:3]) + 'T' + time_text(*a[3:9]))
+
+
 DATE, TIME = [I32, U8, U8], [U8, U8, U8, U16, U16, U16]
 WIDE, DUR = [I64] * 6, [I64] * 4
 CALLS = {
@@ -434,30 +511,49 @@ CALLS = {
     'round_datetime': (round_datetime, DATE + TIME + [UNIT, U64, MODE]),
     'datetime_difference': (datetime_difference, DATE + TIME + DATE + TIME + [UNIT]),
     'datetime_from_instant': (datetime_from_instant, [I64] * 3),
+    'write_date': (write_date, DATE + [ROOM]),
+    'write_time': (write_time, TIME + [ROOM]),
+    'write_datetime': (write_datetime, DATE + TIME + [ROOM]),
 }
+# These take a text: all that follows the one space after the name.
+READERS = {b'read_date': read_date, b'read_time': read_time, b'read_datetime': read_datetime}
 TABLE = {name.encode(): (f, kinds) for name, (f, kinds) in CALLS.items()}
 LONGEST = 1000
 FORM = re.compile(rb'[a-z_]+(?: (?:0|-?[1-9][0-9]{0,19}))+')
 
 
-def answer(line):
-    if not line:
-        return ''
-    if len(line) > LONGEST or not FORM.fullmatch(line):
-        return '?'
+def request(line):
+    """the call that a line asks for and what it is handed, or nothing where the line is no request"""
+    if len(line) > LONGEST:
+        return None
+    name, space, text = line.partition(b' ')
+    if name in READERS:
+        return (READERS[name], (text,)) if space else None
+    if not FORM.fullmatch(line):
+        return None
     words = line.split(b' ')
     call = TABLE.get(words[0])
     if call is None:
-        return '?'
+        return None
     f, kinds = call
     if len(words) != len(kinds) + 1:
-        return '?'
+        return None
     numbers = tuple(map(int, words[1:]))
     for n, (low, high) in zip(numbers, kinds):
         if n < low or n > high:
-            return '?'
+            return None
+    return f, numbers
+
+
+def answer(line):
+    if not line:
+        return ''
+    asked = request(line)
+    if asked is None:
+        return '?'
+    f, handed = asked
     try:
-        values = f(*numbers)
+        values = f(*handed)
     except Refusal as refusal:
         return str(refusal.number)
     return ' '.join(map(str, (0,) + values))

@@ -2,21 +2,32 @@
 
 use crate::builtins::core::{calendar::Calendar, duration::DateDuration};
 use crate::iso::{balance_iso_year_month_with_clamp, IsoDate, IsoDateTime, IsoTime};
+use crate::ixdtf::records::{Fraction, TimeRecord};
 use crate::options::{Overflow, ResolvedRoundingOptions, RoundingIncrement, RoundingMode, Unit, UNIT_VALUE_TABLE};
+use crate::parsers::{IxdtfStringBuilder, Precision};
 use crate::rounding::IncrementRounder;
 use crate::unix_time::EpochNanoseconds;
-use crate::{utils, TemporalResult, NS_PER_DAY};
+use crate::writeable::Writeable;
+use crate::{utils, TemporalError, TemporalResult, NS_PER_DAY};
+use core::fmt;
 use core::num::NonZeroU128;
-use lines::{Call, Request};
+use lines::{text, Call, Request};
 
-/// The values of an answer; `None` where the Rust's parameter types cannot take the input.
-type Answer = TemporalResult<Option<Vec<i128>>>;
+/// What follows the 0 of an answer.
+enum Given {
+    Numbers(Vec<i128>),
+    Text(String),
+}
+
+/// `None` where the Rust has no such call or its parameter types cannot take the input.
+type Answer = TemporalResult<Option<Given>>;
 
 pub fn answer(request: &Request) -> String {
-    match work(request.call, request.numbers()) {
+    match work(request) {
         Err(_) => "refused".to_string(),
         Ok(None) => "-".to_string(),
-        Ok(Some(values)) => {
+        Ok(Some(Given::Text(text))) => format!("0 {text}"),
+        Ok(Some(Given::Numbers(values))) => {
             let mut line = "0".to_string();
             for value in values {
                 line.push(' ');
@@ -28,8 +39,9 @@ pub fn answer(request: &Request) -> String {
 }
 
 // The casts of console numbers lose nothing: a request's numbers lie within their kinds.
-fn work(call: Call, n: &[i128]) -> Answer {
-    match call {
+fn work(request: &Request) -> Answer {
+    let n = request.numbers();
+    match request.call {
         Call::MonthLength => month_length(n[0] as i32, n[1] as u8),
         Call::DateToDay => values([date(n).to_epoch_days()]),
         Call::DayToDate => {
@@ -52,7 +64,7 @@ fn work(call: Call, n: &[i128]) -> Answer {
             let t = time(n);
             let regulated =
                 IsoTime::new(t.hour, t.minute, t.second, t.millisecond, t.microsecond, t.nanosecond, overflow(n[6]))?;
-            Ok(Some(time_values(regulated)))
+            numbers(time_values(regulated))
         }
         Call::BalanceTime => {
             carry_answer(IsoTime::balance(n[0] as i64, n[1] as i64, n[2] as i64, n[3] as i64, n[4], n[5]))
@@ -96,6 +108,68 @@ fn work(call: Call, n: &[i128]) -> Answer {
             let nanoseconds = n[0] * i128::from(NS_PER_DAY) + n[1];
             date_time_answer(IsoDateTime::from_epoch_nanos(&EpochNanoseconds(nanoseconds), n[2] as i64))
         }
+        Call::ReadDate => match text::said_date(request.text) {
+            None => Ok(None),
+            Some([year, month, day]) => {
+                date_answer(IsoDate::new_with_overflow(year as i32, month as u8, day as u8, Overflow::Reject)?)
+            }
+        },
+        Call::ReadTime => match text::said_time(request.text).and_then(time_record) {
+            None => Ok(None),
+            Some(record) => numbers(time_values(IsoTime::from_time_record(record)?)),
+        },
+        Call::ReadDateTime => read_date_time(request.text),
+        Call::WriteDate => written(IxdtfStringBuilder::default().with_date(date(n)), n[3]),
+        Call::WriteTime => written(IxdtfStringBuilder::default().with_time(time(n), Precision::Auto), n[6]),
+        Call::WriteDateTime => {
+            written(IxdtfStringBuilder::default().with_date(date(n)).with_time(time(&n[3..]), Precision::Auto), n[9])
+        }
+    }
+}
+
+/// The steps that the Rust takes from the parser's two records to a date and time within the limits.
+fn read_date_time(bytes: &[u8]) -> Answer {
+    let Some(([year, month, day], said)) = text::said_date_time(bytes) else {
+        return Ok(None);
+    };
+    let Some(record) = time_record(said) else {
+        return Ok(None);
+    };
+    let date = IsoDate::regulate(year as i32, month as u8, day as u8, Overflow::Reject)?;
+    date_time_answer(IsoDateTime::new(date, IsoTime::from_time_record(record)?)?)
+}
+
+/// The parser's record of a time. The proposal's grammar has no second above 60, so the Rust's parser hands none on:
+/// `from_time_record` would take any of them as 59.
+fn time_record([hour, minute, second, nanoseconds]: [i128; 4]) -> Option<TimeRecord> {
+    (second <= 60).then_some(TimeRecord {
+        hour: hour as u8,
+        minute: minute as u8,
+        second: second as u8,
+        fraction: Some(Fraction { nanoseconds: Some(nanoseconds as u32) }),
+    })
+}
+
+/// What the Rust writes into an output with so much room.
+fn written(builder: IxdtfStringBuilder, room: i128) -> Answer {
+    let mut lent = Lent { text: String::new(), room: room as usize };
+    builder.write_to(&mut lent).map_err(|_| TemporalError::range())?;
+    Ok(Some(Given::Text(lent.text)))
+}
+
+/// A lent output. What it has no room for is an error, and the Rust hands it on.
+struct Lent {
+    text: String,
+    room: usize,
+}
+
+impl fmt::Write for Lent {
+    fn write_str(&mut self, piece: &str) -> fmt::Result {
+        if self.text.len() + piece.len() > self.room {
+            return Err(fmt::Error);
+        }
+        self.text.push_str(piece);
+        Ok(())
     }
 }
 
@@ -176,8 +250,12 @@ fn mode(n: i128) -> RoundingMode {
     [Ceil, Floor, Expand, Trunc, HalfCeil, HalfFloor, HalfExpand, HalfTrunc, HalfEven][n as usize]
 }
 
+fn numbers(values: Vec<i128>) -> Answer {
+    Ok(Some(Given::Numbers(values)))
+}
+
 fn values<T: Into<i128>, const N: usize>(values: [T; N]) -> Answer {
-    Ok(Some(values.into_iter().map(Into::into).collect()))
+    numbers(values.into_iter().map(Into::into).collect())
 }
 
 fn date_answer(d: IsoDate) -> Answer {
@@ -198,13 +276,13 @@ fn time_values(t: IsoTime) -> Vec<i128> {
 fn carry_answer((carry, time): (i64, IsoTime)) -> Answer {
     let mut values = vec![carry.into()];
     values.extend(time_values(time));
-    Ok(Some(values))
+    numbers(values)
 }
 
 fn date_time_answer(d: IsoDateTime) -> Answer {
     let mut values = vec![d.date.year.into(), d.date.month.into(), d.date.day.into()];
     values.extend(time_values(d.time));
-    Ok(Some(values))
+    numbers(values)
 }
 
 fn duration_answer(d: DateDuration) -> Answer {

@@ -1,9 +1,12 @@
-//! The console's line protocol: which calls there are, what numbers each takes, and when a line is a request.
+//! The console's line protocol: which calls there are, what each takes, and when a line is a request.
 //! The oracle, the maker of requests and the judge read the same table.
 
 pub mod days;
+pub mod sweep;
+pub mod text;
 
-/// The type of one number of a request; a number outside it makes the line no request.
+/// The type of one number of a request, where a number outside it makes the line no request; or a text, which is the
+/// last thing of its line and may be any bytes.
 #[derive(Clone, Copy, PartialEq, Eq)]
 pub enum Kind {
     U8,
@@ -15,19 +18,24 @@ pub enum Kind {
     Mode,
     Overflow,
     Given,
+    Room,
+    Text,
 }
 
 impl Kind {
-    pub fn range(self) -> (i128, i128) {
+    /// The first and the last number of a type; a text has none.
+    pub fn range(self) -> Option<(i128, i128)> {
         match self {
-            Kind::U8 => (0, u8::MAX.into()),
-            Kind::U16 => (0, u16::MAX.into()),
-            Kind::I32 => (i32::MIN.into(), i32::MAX.into()),
-            Kind::I64 => (i64::MIN.into(), i64::MAX.into()),
-            Kind::U64 => (0, u64::MAX.into()),
-            Kind::Unit => (0, 9),
-            Kind::Mode => (0, 8),
-            Kind::Overflow | Kind::Given => (0, 1),
+            Kind::U8 => Some((0, u8::MAX.into())),
+            Kind::U16 => Some((0, u16::MAX.into())),
+            Kind::I32 => Some((i32::MIN.into(), i32::MAX.into())),
+            Kind::I64 => Some((i64::MIN.into(), i64::MAX.into())),
+            Kind::U64 => Some((0, u64::MAX.into())),
+            Kind::Unit => Some((0, 9)),
+            Kind::Mode => Some((0, 8)),
+            Kind::Overflow | Kind::Given => Some((0, 1)),
+            Kind::Room => Some((0, text::LONGEST as i128)),
+            Kind::Text => None,
         }
     }
 }
@@ -81,40 +89,65 @@ calls! {
     DateTimeDifference "datetime_difference"
         &[I32, U8, U8, U8, U8, U8, U16, U16, U16, I32, U8, U8, U8, U8, U8, U16, U16, U16, Unit];
     DateTimeFromInstant "datetime_from_instant" &[I64, I64, I64];
+    ReadDate "read_date" &[Text];
+    ReadTime "read_time" &[Text];
+    ReadDateTime "read_datetime" &[Text];
+    WriteDate "write_date" &[I32, U8, U8, Room];
+    WriteTime "write_time" &[U8, U8, U8, U16, U16, U16, Room];
+    WriteDateTime "write_datetime" &[I32, U8, U8, U8, U8, U8, U16, U16, U16, Room];
 }
 
 /// As many numbers as the longest request has.
 const MOST: usize = 19;
 
-/// A line that is a request: its call and its numbers, each within its kind.
-pub struct Request {
+/// As many bytes as a line may have that is a request.
+pub const LONGEST_LINE: usize = 1000;
+
+/// A line that is a request: its call, its numbers, each within its kind, and its text, which is empty if it takes none.
+pub struct Request<'a> {
     pub call: Call,
     numbers: [i128; MOST],
+    pub text: &'a [u8],
 }
 
-impl Request {
+impl Request<'_> {
     pub fn numbers(&self) -> &[i128] {
-        &self.numbers[..self.call.kinds().len()]
+        let taken = self.call.kinds().iter().filter(|kind| **kind != Kind::Text).count();
+        &self.numbers[..taken]
     }
 
     /// The request that a line is, if it is one.
-    pub fn read(line: &[u8]) -> Option<Request> {
-        let mut words = line.split(|&b| b == b' ');
-        let name = words.next()?;
+    pub fn read(line: &[u8]) -> Option<Request<'_>> {
+        if line.len() > LONGEST_LINE {
+            return None;
+        }
+        let (name, mut left) = first_word(line);
         let call = *CALLS.iter().find(|call| call.name().as_bytes() == name)?;
-        let mut numbers = [0; MOST];
+        let mut request = Request { call, numbers: [0; MOST], text: b"" };
         for (at, kind) in call.kinds().iter().enumerate() {
-            let number = read_number(words.next()?)?;
-            let (low, high) = kind.range();
+            let rest = left?;
+            let Some((low, high)) = kind.range() else {
+                request.text = rest;
+                left = None;
+                continue;
+            };
+            let (word, after) = first_word(rest);
+            let number = read_number(word)?;
             if number < low || high < number {
                 return None;
             }
-            numbers[at] = number;
+            request.numbers[at] = number;
+            left = after;
         }
-        match words.next() {
-            None => Some(Request { call, numbers }),
-            Some(_) => None,
-        }
+        left.is_none().then_some(request)
+    }
+}
+
+/// What stands before the first space, and what follows it; nothing follows where there is no space.
+fn first_word(bytes: &[u8]) -> (&[u8], Option<&[u8]>) {
+    match bytes.iter().position(|&b| b == b' ') {
+        Some(at) => (&bytes[..at], Some(&bytes[at + 1..])),
+        None => (bytes, None),
     }
 }
 

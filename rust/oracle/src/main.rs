@@ -8,6 +8,9 @@ use lines::Request;
 use std::io::{Read, Write};
 use std::panic::{catch_unwind, AssertUnwindSafe};
 
+// The Rust's text takes its strings from there.
+extern crate alloc;
+
 mod calls;
 mod filled;
 
@@ -16,6 +19,8 @@ mod filled;
 mod iso;
 #[allow(dead_code)]
 mod options;
+#[allow(dead_code)]
+mod parsers;
 #[allow(dead_code)]
 mod rounding;
 #[allow(dead_code, unused_imports)]
@@ -32,9 +37,10 @@ mod builtins {
 // What that text looks for at the crate's root.
 #[allow(unused_imports)]
 pub(crate) use builtins::core::{duration::Duration, PlainDate};
-pub(crate) use filled::root::{parsers, unix_time, Sign, TemporalUnwrap};
+pub(crate) use filled::root::{unix_time, Sign, TemporalUnwrap};
 pub(crate) use filled::root::{MS_PER_DAY, NS_MAX_INSTANT, NS_MIN_INSTANT, NS_PER_DAY, NS_PER_DAY_NONZERO};
-pub(crate) use filled::{error, error::TemporalError, error::TemporalResult, ixdtf, num_traits, timezone_provider};
+pub(crate) use filled::{error, error::TemporalError, error::TemporalResult};
+pub(crate) use filled::{ixdtf, num_traits, timezone_provider, writeable};
 
 fn main() {
     std::panic::set_hook(Box::new(|_| {}));

@@ -6,7 +6,7 @@
 //! DIFFERENCES.
 
 use lines::days::{date_of, day_number, month_length};
-use lines::{lines, read_number, Call, Kind, Request};
+use lines::{lines, read_number, text, Call, Kind, Request};
 
 /// As many disagreements as are shown.
 const SHOWN: usize = 40;
@@ -77,7 +77,12 @@ fn is_own(line: &[u8]) -> bool {
 }
 
 fn is_refusal(line: &[u8]) -> bool {
-    matches!(line, [b'1'..=b'8'])
+    refusal_number(line).is_some()
+}
+
+fn refusal_number(line: &[u8]) -> Option<u8> {
+    let number = u8::try_from(read_number(line)?).ok()?;
+    (1..=10).contains(&number).then_some(number)
 }
 
 /// The entry that the Rust's answer to a request falls under, and the rules' answer to it.
@@ -87,10 +92,12 @@ fn explanation(entries: &[&Entry], request: &[u8], oracle: &[u8]) -> Option<(usi
     entries.iter().enumerate().find_map(|(at, entry)| Some((at, (entry.paper)(&request, &rust)?)))
 }
 
-/// What the oracle tells of the Rust, where it does not refuse.
+/// What the oracle tells of the Rust, where it does not refuse. What a text says does not matter: where the rules write
+/// one, it is compared as a line.
 #[derive(PartialEq)]
 enum Rust {
     Values(Vec<i128>),
+    Text,
     Overflow,
     NotTaken,
 }
@@ -100,6 +107,7 @@ impl Rust {
         match line {
             b"overflow" => Some(Rust::Overflow),
             b"-" => Some(Rust::NotTaken),
+            [b'0', b' ', ..] if values(line).is_none() => Some(Rust::Text),
             _ => values(line).map(Rust::Values),
         }
     }
@@ -109,18 +117,33 @@ impl Rust {
     }
 
     /// It computes on with the numbers as they are. That overflows only for large ones: a difference of years is
-    /// multiplied by 12 in 32 bits, and weeks by 7 before the days are added in 64.
+    /// multiplied by 12 in 32 bits, weeks by 7 before the days are added in 64, and a fraction to be written is put
+    /// together as nanoseconds in 32 bits.
     fn computes(&self, request: &Request) -> bool {
         let large = |(number, kind): (&i128, &Kind)| match kind {
             Kind::I32 => !fits_i32(number.abs() * 2 * 12),
             Kind::I64 => !fits_i64(number.abs() * 2 * 8),
             _ => false,
         };
-        match self {
-            Rust::Values(_) => true,
-            Rust::Overflow => request.numbers().iter().zip(request.call.kinds()).any(large),
-            Rust::NotTaken => false,
+        let n = request.numbers();
+        match (request.call, self) {
+            (Call::WriteDate, _) => *self == Rust::Text,
+            (Call::WriteTime, _) => *self == time_unchecked(&n[3..]),
+            (Call::WriteDateTime, _) => *self == time_unchecked(&n[6..]),
+            (_, Rust::Values(_)) => true,
+            (_, Rust::Overflow) => n.iter().zip(request.call.kinds()).any(large),
+            _ => false,
         }
+    }
+}
+
+/// What the Rust does with a time to be written, by its milliseconds, microseconds and nanoseconds.
+fn time_unchecked(fraction: &[i128]) -> Rust {
+    let nanoseconds = fraction[0] * 1_000_000 + fraction[1] * 1_000 + fraction[2];
+    if nanoseconds > u32::MAX.into() {
+        Rust::Overflow
+    } else {
+        Rust::Text
     }
 }
 
@@ -133,10 +156,7 @@ enum Paper {
 
 impl Paper {
     fn read(line: &[u8]) -> Option<Paper> {
-        match line {
-            [digit] if is_refusal(line) => Some(Paper::Refusal(digit - b'0')),
-            _ => values(line).map(Paper::Values),
-        }
+        refusal_number(line).map(Paper::Refusal).or_else(|| values(line).map(Paper::Values))
     }
 }
 
@@ -180,7 +200,8 @@ fn refusal_if(condition: bool, number: u8) -> Option<Paper> {
 }
 
 /// D-1: a month length has no month but the twelve, the rounder's step is never 0, an increment has 32 bits, and so has
-/// the day of a date and time.
+/// the day of a date and time. The parser is not in the text: one hands on what a well-formed text says, with a second
+/// of at most 60.
 fn not_taken(request: &Request, rust: &Rust) -> Option<Paper> {
     let n = request.numbers();
     match request.call {
@@ -190,11 +211,22 @@ fn not_taken(request: &Request, rust: &Rust) -> Option<Paper> {
         Call::RoundTime if n[7] > u32::MAX.into() => rounding_refusal(request).map(Paper::Refusal),
         Call::RoundDateTime if n[10] > u32::MAX.into() => rounding_refusal(request).map(Paper::Refusal),
         Call::BalanceDateTime if !fits_i32(n[2]) => Some(balanced_date_time(n)),
+        Call::ReadDate => refusal_if(text::said_date(request.text).is_none(), 9),
+        Call::ReadTime => not_handed_on(text::said_time(request.text)),
+        Call::ReadDateTime => not_handed_on(text::said_date_time(request.text).map(|(_, time)| time)),
         _ => None,
     }
 }
 
-/// D-2: a record with a bad field is 1; the Rust computes with the field as it is.
+/// A text of another form is 9; a second above 60 is a bad field.
+fn not_handed_on(time: Option<[i128; 4]>) -> Option<Paper> {
+    match time {
+        None => Some(Paper::Refusal(9)),
+        Some([_, _, second, _]) => refusal_if(second > 60, 1),
+    }
+}
+
+/// D-2: a record with a bad field is 1; the Rust computes with the field as it is, or writes it.
 fn fields_unchecked(request: &Request, rust: &Rust) -> Option<Paper> {
     refusal_if(record_refusal(request) == Some(1) && rust.computes(request), 1)
 }
@@ -288,8 +320,8 @@ fn adjust_unchecked(request: &Request, rust: &Rust) -> Option<Paper> {
     refusal_if((!is_duration(n) || !is_duration(&adjusted)) && *rust == Rust::Values(adjusted), 8)
 }
 
-/// D-10: a record outside the limits is 2, or 3 with a time; the Rust computes with it. (Where the limits themselves
-/// are asked for it refuses, and nothing parts.)
+/// D-10: a record outside the limits is 2, or 3 with a time; the Rust computes with it, or writes it. (Where the limits
+/// themselves are asked for it refuses, and nothing parts.)
 fn limits_unchecked(request: &Request, rust: &Rust) -> Option<Paper> {
     let number = record_refusal(request).filter(|number| [2, 3].contains(number))?;
     refusal_if(rust.computes(request), number)
@@ -415,11 +447,11 @@ fn record_refusal(request: &Request) -> Option<u8> {
     match request.call {
         // A date to be turned into its day is not held to the date limits.
         Call::DateToDay => bad(is_date(n)),
-        Call::DateLimits | Call::DateSum => date_refusal(n),
+        Call::DateLimits | Call::DateSum | Call::WriteDate => date_refusal(n),
         Call::DateDifference => date_refusal(n).or_else(|| date_refusal(&n[3..])),
         Call::TimeDifference => bad(is_time(n) && is_time(&n[6..])),
-        Call::RoundTime => bad(is_time(n)),
-        Call::DateTimeLimits | Call::RoundDateTime => date_time_refusal(n),
+        Call::RoundTime | Call::WriteTime => bad(is_time(n)),
+        Call::DateTimeLimits | Call::RoundDateTime | Call::WriteDateTime => date_time_refusal(n),
         Call::DateTimeDifference => date_time_refusal(n).or_else(|| date_time_refusal(&n[9..])),
         _ => None,
     }

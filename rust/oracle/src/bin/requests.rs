@@ -1,11 +1,13 @@
 //! Makes the requests of a comparison: `requests SEED N CALL..` writes N lines for each call, the same for a seed.
 //!
 //! The fixed lines of a call come first: the readings of the rules and the smallest inputs of the listed differences.
-//! The rest is drawn at random, most of it from around the places where an answer turns: limits, ends of types, month
-//! ends, leap days, ties, bounds. About one line in 200 is spoiled so that it is no request.
+//! Then, for date text, the swept ones. The rest is drawn at random, most of it from around the places where an answer
+//! turns: limits, ends of types, month ends, leap days, ties, bounds, good texts with one byte damaged. About one line in
+//! 200 is spoiled so that it is no request.
 
 use lines::days::{balance_year_month, date_of, day_number, month_length};
-use lines::{Call, Kind, CALLS};
+use lines::text::{written_date, written_date_time, written_time, written_year, LONGEST};
+use lines::{sweep, Call, Kind, CALLS, LONGEST_LINE};
 use std::io::Write;
 
 const FIXED: &str = include_str!("../fixed.txt");
@@ -36,15 +38,15 @@ fn main() {
     let mut lines = 0;
     for &call in &calls {
         let mut source = Source::new(seed, call);
-        let fixed = FIXED.lines().filter(|line| line.split(' ').next() == Some(call.name())).take(count);
-        let fixed: Vec<&[u8]> = fixed.map(str::as_bytes).collect();
+        let fixed = FIXED.lines().filter(|line| line.split(' ').next() == Some(call.name()));
+        let fixed: Vec<Vec<u8>> = fixed.map(|line| line.as_bytes().to_vec()).chain(sweep::swept(call)).collect();
         for at in 0..count {
             lines += 1;
             let last = lines == calls.len() * count;
             let drawn: Vec<u8> = match fixed.get(at) {
                 Some(line) => line.to_vec(),
                 None => {
-                    let line = line_of(call, &source.numbers(call));
+                    let line = source.line(call);
                     if source.once_in(200) && !last {
                         source.spoil(call, line)
                     } else {
@@ -516,13 +518,17 @@ impl Source {
 
     fn date_time(&mut self) -> Vec<i128> {
         if self.once_in(8) {
-            // At the limits: midnight of the first day is outside, the nanosecond after it inside.
-            let day = self.one_of(&[-LAST_BALANCED - 1, -LAST_BALANCED, LAST_BALANCED - 1, LAST_BALANCED]);
-            let nanosecond = self.one_of(&[0, 1, DAY_NANOSECONDS / 2, DAY_NANOSECONDS - 1]);
-            return [&date_fields(day)[..], &time_fields(nanosecond)[..]].concat();
+            return self.date_time_at_limits();
         }
         let (date, time) = (self.date(), self.time());
         [&date[..], &time[..]].concat()
+    }
+
+    /// At the limits: midnight of the first day is outside, the nanosecond after it inside.
+    fn date_time_at_limits(&mut self) -> Vec<i128> {
+        let day = self.one_of(&[-LAST_BALANCED - 1, -LAST_BALANCED, LAST_BALANCED - 1, LAST_BALANCED]);
+        let nanosecond = self.one_of(&[0, 1, DAY_NANOSECONDS / 2, DAY_NANOSECONDS - 1]);
+        [&date_fields(day)[..], &time_fields(nanosecond)[..]].concat()
     }
 
     fn two_date_times(&mut self) -> Vec<i128> {
@@ -585,6 +591,173 @@ impl Source {
         [day, nanosecond, offset]
     }
 
+    // Texts, and records to be written.
+
+    /// A text for a reader: mostly of its own kind and of good form, often with one byte damaged.
+    fn text(&mut self, call: Call) -> Vec<u8> {
+        let readers = [Call::ReadDate, Call::ReadTime, Call::ReadDateTime];
+        let kind = if self.once_in(12) { readers[self.below(3) as usize] } else { call };
+        let text = match kind {
+            Call::ReadDate => self.date_text(),
+            Call::ReadTime => self.time_text(),
+            _ if self.once_in(16) => written_date_time(&self.date_time_at_limits()),
+            _ => {
+                let between = if self.once_in(16) { self.piece(&["t", " ", "_", "", "TT", "T "]) } else { "T" };
+                format!("{}{between}{}", self.date_text(), self.time_text())
+            }
+        };
+        let mut text = text.into_bytes();
+        match self.below(12) {
+            0..=3 => self.damage(&mut text),
+            4 => self.resize(&mut text, call),
+            _ => {}
+        }
+        text
+    }
+
+    fn date_text(&mut self) -> String {
+        let [year, month, day] = match self.below(8) {
+            0 => [self.year_to_write(), self.between(0, 13), self.one_of(&[0, 1, 9, 28, 29, 30, 31, 32, 99])],
+            1 => [self.between(-999_999, 999_999), self.between(0, 99), self.between(0, 99)],
+            2 => {
+                let end = self.one_of(&[-LAST_BALANCED, LAST_BALANCED]);
+                date_fields(self.beside(end))
+            }
+            3 => {
+                let [year, month, last] = self.month_end();
+                [year, month, last + self.between(0, 3)]
+            }
+            4 => [self.year_to_write(), self.between(1, 12), self.between(1, 28)],
+            _ => self.good_date(),
+        };
+        let year = match self.below(24) {
+            // A sign and six digits, where four would do too.
+            0..=3 => format!("{year:+07}"),
+            4 => "-000000".to_string(),
+            // A sign before four digits, six digits without one, and other lengths.
+            5 => format!("{:+05}", year % 10_000),
+            6 => format!("{:06}", year.abs()),
+            7 => format!("{:0width$}", year.abs(), width = self.below(8) as usize),
+            8 => format!("{year:+0width$}", width = self.below(9) as usize),
+            _ => written_year(year),
+        };
+        format!("{year}-{month:02}-{day:02}")
+    }
+
+    fn time_text(&mut self) -> String {
+        let [hour, minute, mut second, ..] = self.good_time();
+        let (hour, minute) = match self.below(12) {
+            0 => (self.one_of(&[23, 24, 25, 99]), minute),
+            1 => (hour, self.one_of(&[59, 60, 61, 99])),
+            _ => (hour, minute),
+        };
+        if self.once_in(3) {
+            second = self.one_of(&[0, 9, 59, 60, 60, 60, 61, 62, 99]);
+        }
+        let mut text = format!("{hour:02}:{minute:02}");
+        if self.once_in(6) {
+            return text;
+        }
+        text.push_str(&format!(":{second:02}"));
+        if self.once_in(4) {
+            return text;
+        }
+        text.push_str(if self.once_in(24) { self.piece(&[",", "", "..", ":"]) } else { "." });
+        let length = if self.once_in(6) { self.one_of(&[0, 1, 9, 10]) } else { self.between(1, 9) };
+        let zeros = self.between(0, length * 2) - length;
+        for place in 0..length {
+            let digit = if place + zeros >= length { 0 } else { self.between(0, 9) };
+            text.push_str(&digit.to_string());
+        }
+        text
+    }
+
+    fn piece(&mut self, pool: &[&'static str]) -> &'static str {
+        pool[self.below(pool.len() as u64) as usize]
+    }
+
+    /// One byte of a text replaced, dropped, doubled, added, moved to its neighbour or exchanged with another.
+    fn damage(&mut self, text: &mut Vec<u8>) {
+        let at = self.below(text.len() as u64) as usize;
+        match self.below(6) {
+            0 => text[at] = self.byte(),
+            1 => drop(text.remove(at)),
+            2 => text.insert(at, text[at]),
+            3 => text.insert(at + self.below(2) as usize, self.byte()),
+            4 => text[at] = if self.once_in(2) { text[at] - 1 } else { text[at] + 1 },
+            _ => {
+                let other = self.below(text.len() as u64) as usize;
+                text.swap(at, other);
+            }
+        }
+    }
+
+    /// Any byte but a newline, which would end the line; those that have a meaning in some text over their share.
+    fn byte(&mut self) -> u8 {
+        let known = b"0123456789+-:.,TtZzWP /;[]\r\t\0";
+        if self.once_in(2) {
+            return known[self.below(known.len() as u64) as usize];
+        }
+        match self.below(256) as u8 {
+            // Instead, the digit 2 with its high bit set.
+            b'\n' => b'2' | 0x80,
+            byte => byte,
+        }
+    }
+
+    /// A text cut or drawn out: to a length close to the longest that is looked at, or as far as a line goes.
+    fn resize(&mut self, text: &mut Vec<u8>, call: Call) {
+        let length = match self.below(6) {
+            0..=2 => self.beside(LONGEST as i128),
+            3 => self.between(0, 70),
+            4 => self.between(70, 1_100),
+            _ => self.beside((LONGEST_LINE - call.name().len() - 1) as i128),
+        };
+        let put = self.byte();
+        text.resize(length as usize, put);
+    }
+
+    /// Years about which the form or the limits turn.
+    fn year_to_write(&mut self) -> i128 {
+        match self.below(3) {
+            0 => self.one_of(&[0, 1, 9_999, 10_000, -1, 99_999, 100_000, -9_999, -10_000, 999_999, -999_999]),
+            1 => self.one_of(&[-271_822, -271_821, -271_820, 275_759, 275_760, 275_761]),
+            _ => self.signed(275_760),
+        }
+    }
+
+    fn date_to_write(&mut self) -> [i128; 3] {
+        if self.once_in(3) {
+            return [self.year_to_write(), self.between(1, 12), self.between(1, 28)];
+        }
+        self.date()
+    }
+
+    /// A time: half of them with a fraction of any length.
+    fn time_to_write(&mut self) -> [i128; 6] {
+        if self.once_in(2) {
+            return self.time();
+        }
+        let length = self.below(10) as u32;
+        let clock = self.between(0, 86_399) * 1_000_000_000;
+        time_fields(clock + self.between(0, 10_i128.pow(length) - 1) * 10_i128.pow(9 - length))
+    }
+
+    /// How much room is lent for a text; 65 is no room.
+    fn room(&mut self, text: &str) -> i128 {
+        let length = text.len() as i128;
+        let last = LONGEST as i128;
+        match self.below(8) {
+            0 => self.one_of(&[0, 1, last - 1, last]),
+            1..=2 => length - 1,
+            3..=4 => length,
+            5 => length + 1,
+            6 => self.between(0, last),
+            _ if self.once_in(16) => last + 1,
+            _ => last,
+        }
+    }
+
     /// The numbers of a request for a call.
     fn numbers(&mut self, call: Call) -> Vec<i128> {
         match call {
@@ -640,7 +813,38 @@ impl Source {
             }
             Call::DateTimeDifference => [&self.two_date_times()[..], &[self.between(0, 9)]].concat(),
             Call::DateTimeFromInstant => self.instant().to_vec(),
+            // They take a text and nothing before it.
+            Call::ReadDate | Call::ReadTime | Call::ReadDateTime => Vec::new(),
+            Call::WriteDate => {
+                let date = self.date_to_write();
+                let room = self.room(&written_date(&date));
+                [&date[..], &[room]].concat()
+            }
+            Call::WriteTime => {
+                let time = self.time_to_write();
+                let room = self.room(&written_time(&time));
+                [&time[..], &[room]].concat()
+            }
+            Call::WriteDateTime => {
+                let both = if self.once_in(2) {
+                    self.date_time()
+                } else {
+                    [&self.date_to_write()[..], &self.time_to_write()[..]].concat()
+                };
+                let room = self.room(&written_date_time(&both));
+                [&both[..], &[room]].concat()
+            }
         }
+    }
+
+    /// A request for a call.
+    fn line(&mut self, call: Call) -> Vec<u8> {
+        let mut line = line_of(call, &self.numbers(call));
+        if call.kinds().contains(&Kind::Text) {
+            line.push(b' ');
+            line.extend(self.text(call));
+        }
+        line
     }
 
     /// A request made into a line that is none (or, seldom, into another request).
@@ -667,15 +871,14 @@ impl Source {
             16 => words[at + 1] = vec![b'9'; 19 + self.below(40) as usize],
             17 => words[0].push(b'\t'),
             18 => drop(words.drain(1..)),
-            _ => words[at + 1] = self.outside(call.kinds()[at]).to_string().into_bytes(),
+            _ => match call.kinds()[at].range() {
+                // A number next to its type's range, on one side or the other.
+                Some((low, high)) => words[at + 1] = self.one_of(&[low - 1, high + 1]).to_string().into_bytes(),
+                // A line of one byte too many.
+                None => words = vec![call.name().into(), vec![b'0'; LONGEST_LINE - call.name().len()]],
+            },
         }
         words.join(&b' ')
-    }
-
-    /// A number next to a type's range, on one side or the other.
-    fn outside(&mut self, kind: Kind) -> i128 {
-        let (low, high) = kind.range();
-        self.one_of(&[low - 1, high + 1])
     }
 }
 

@@ -1,4 +1,4 @@
-//! The parser's time record, which only `from_time_record` reads. No call of the console comes to it.
+//! The parser's time record, which `from_time_record` reads. The parser is not at hand; `text.rs` stands in for it.
 
 pub mod records {
     pub struct TimeRecord {

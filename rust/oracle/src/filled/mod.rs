@@ -11,3 +11,5 @@ pub(crate) mod plain;
 #[allow(dead_code)]
 pub(crate) mod root;
 pub(crate) mod timezone_provider;
+#[allow(dead_code)]
+pub(crate) mod writeable;

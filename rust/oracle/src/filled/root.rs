@@ -69,13 +69,3 @@ pub(crate) mod unix_time {
         }
     }
 }
-
-pub(crate) mod parsers {
-    #[derive(Debug, Default, Clone, Copy)]
-    pub enum Precision {
-        #[default]
-        Auto,
-        Minute,
-        Digit(u8),
-    }
-}
