@@ -102,3 +102,10 @@ not-there s piece n e = record { reads = sym e; small = some n; inside = omega a
 
 pub reads-as : {s : List ℕ} {p q : Parsed ℕ} {bound : ℕ} {r : P′.Piece} → Reads s p bound r → p ≡ q → Reads s q bound r
 reads-as h e = rw e at h
+
+pub is-there : {s : List ℕ} {p : Parsed ℕ} {bound : ℕ} {r : P′.Piece} {v end : ℕ} → Reads s p bound r → r ≡ P.Is v end →
+    (p ≡ took v (drop end s)) × ((v < bound) × (end ≤ length s))
+is-there {s} h e = (sym (rw e at (h .reads)), (rw e at (h .small), rw e at (h .inside)))
+
+pub is-missing : {s : List ℕ} {p : Parsed ℕ} {bound : ℕ} {r : P′.Piece} → Reads s p bound r → r ≡ P.Not → p ≡ nothing
+is-missing h e = sym (rw e at (h .reads))

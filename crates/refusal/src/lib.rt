@@ -16,3 +16,7 @@ pub const INCREMENT: u8 = 6;
 pub const BOUND: u8 = 7;
 // The parts make no duration.
 pub const DURATION: u8 = 8;
+// The text is of another form.
+pub const FORM: u8 = 9;
+// The lent slice is too short.
+pub const ROOM: u8 = 10;
