@@ -1,2 +1,4 @@
 pub mod Years
 pub mod Texts
+pub mod ReadBack
+pub mod Shortest

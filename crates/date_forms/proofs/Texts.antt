@@ -49,6 +49,7 @@ long-length y e = by-sign (ltZ y (pos 0)) refl
   where
     six : (b : ℕ) → length (b ∷ padded 6 (natAbs y)) ≡ 7
     six b = omega (arith, padded-length 6 (natAbs y))
+
     by-sign : (q : Bool) → ltZ y (pos 0) ≡ q → length (yearText y) ≡ 7
     by-sign true low = ap length (minus-year y low) ∙ six hyphen
     by-sign false low = ap length (plus-year y low (rw low at e)) ∙ six plus

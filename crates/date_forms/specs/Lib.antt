@@ -1,3 +1,4 @@
 pub mod Grammar
 pub mod Texts
 pub mod Pieces
+pub mod Claims

@@ -81,11 +81,11 @@ pub fn read_datetime(text: &[u8]) -> DateTimeResult
     if end < text.len() {
         return DateTimeResult::Refused(refusal::FORM);
     }
-    let record = IsoDateTime { date, time };
-    if let LimitResult::Refused(n) = record.check_within_limits() {
+    let stamp = IsoDateTime { date, time };
+    if let LimitResult::Refused(n) = stamp.check_within_limits() {
         return DateTimeResult::Refused(n);
     }
-    DateTimeResult::DateTime(record)
+    DateTimeResult::DateTime(stamp)
 }
 
 // Writes the text of a date at the start of the slice: the record (1, 2), then the room (10).
@@ -118,15 +118,15 @@ pub fn write_time(time: IsoTime, out: &mut [u8]) -> LengthResult
 }
 
 // Writes the text of a date with a time at the start of the slice: the record (1, 3), then the room (10).
-pub fn write_datetime(record: IsoDateTime, out: &mut [u8]) -> LengthResult
-    ensures { λ r. ⌜ (ofLength r ≡ lengthOf (writeDateTime record (length (now (out .entry))))) ×
-        (now (out .exit) ≡ afterwards (now (out .entry)) (writeDateTime record (length (now (out .entry))))) ⌝ }
+pub fn write_datetime(stamp: IsoDateTime, out: &mut [u8]) -> LengthResult
+    ensures { λ r. ⌜ (ofLength r ≡ lengthOf (writeDateTime stamp (length (now (out .entry))))) ×
+        (now (out .exit) ≡ afterwards (now (out .entry)) (writeDateTime stamp (length (now (out .entry))))) ⌝ }
 {
-    if let LimitResult::Refused(n) = record.check_within_limits() {
+    if let LimitResult::Refused(n) = stamp.check_within_limits() {
         return LengthResult::Refused(n);
     }
-    let date = record.date;
-    let time = record.time;
+    let date = stamp.date;
+    let time = stamp.time;
     let fraction = fraction_of(time);
     if out.len() < date_length(date) + 1 + time_length(fraction) {
         return LengthResult::Refused(refusal::ROOM);

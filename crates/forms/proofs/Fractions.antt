@@ -51,8 +51,11 @@ run-padded zero v rest = none (run rest)
     none nothing = refl
     none (took ds after) = refl
 run-padded (suc n) v rest =
-    rw (append-assoc (padded n (v / 10)) ((digitZero + v % 10) ∷ []) rest, run-padded n (v / 10) ((digitZero + v % 10) ∷ rest),
-    run-goes (digitZero + v % 10) rest (digit-is (v % 10) (omega arith))) (longer (run rest) (padded n (v / 10)) (digitZero + v % 10))
+    rw (
+      append-assoc (padded n (v / 10)) ((digitZero + v % 10) ∷ []) rest,
+      run-padded n (v / 10) ((digitZero + v % 10) ∷ rest),
+      run-goes (digitZero + v % 10) rest (digit-is (v % 10) (omega arith)),
+    ) (longer (run rest) (padded n (v / 10)) (digitZero + v % 10))
 
 -- ---- filled up
 

@@ -1,3 +1,4 @@
 pub mod Digits
 pub mod Padded
 pub mod Fractions
+pub mod Shortest

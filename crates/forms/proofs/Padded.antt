@@ -49,8 +49,12 @@ digits-back zero v rest h = let e : 0 ≡ v = omega arith in ap (λ (k : ℕ). t
 digits-back (suc n) v rest h =
     let small : v / 10 < 10 ^ n = omega (arith, pow-suc 10 n) in
     let e : 10 * (v / 10) + (digitZero + v % 10 - digitZero) ≡ v = omega arith in
-    rw (append-assoc (padded n (v / 10)) ((digitZero + v % 10) ∷ []) rest, digits-back n (v / 10) ((digitZero + v % 10) ∷ rest) small,
-    digit-is (v % 10) (omega arith), e)
+    rw (
+      append-assoc (padded n (v / 10)) ((digitZero + v % 10) ∷ []) rest,
+      digits-back n (v / 10) ((digitZero + v % 10) ∷ rest) small,
+      digit-is (v % 10) (omega arith),
+      e,
+    )
 
 -- ---- what was read is all that could be written so
 
@@ -93,9 +97,10 @@ digits-more n text v rest e before = by-front (digits n text) refl
             let front = before w more f in
             let last = digit-only more d after g in
             let high : v / 10 ≡ w = omega (arith, same .0, last .1) in
-            let low : v % 10 ≡ d = omega (arith, same .0, last .1) in
-            (rw (high, low, append-assoc (padded n w) ((digitZero + d) ∷ []) rest, ← (same .1), ← (last .0)) (front .0),
-            rw (pow-suc 10 n) (omega (arith, same .0, last .1, front .1)))
+            let low : v % 10 ≡ d = omega (arith, same .0, last .1) in (
+              rw (high, low, append-assoc (padded n w) ((digitZero + d) ∷ []) rest, ← (same .1), ← (last .0)) (front .0),
+              rw (pow-suc 10 n) (omega (arith, same .0, last .1, front .1)),
+            )
 
 pub digits-only : (n : ℕ) (text : List ℕ) (v : ℕ) (rest : List ℕ) → digits n text ≡ took v rest → (text ≡ padded n v ++ rest) × (v < 10 ^ n)
 unfolding digits padded

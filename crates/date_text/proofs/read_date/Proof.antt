@@ -1,61 +1,50 @@
+-- The form, that nothing is left, the limits.
 use borrow.Author.Needs.{needs}
+use Prim.Native.Nat.{ℕ}
+use native.Mathlib.Omega.{arith}
+use mathlib.Core.Path.{_≡_, sym}
+use mathlib.Core.List.{List}
+use lib.ListN.{drop}
+use Rattle.refusal.specs.Answer.{given}
+use Rattle.forms.specs.Forms.{took}
+use Rattle.date_forms.specs.Grammar.{dateForm}
+use Rattle.date_forms.proofs.Years.{date-there, date-missing}
+use Rattle.date_text.specs.Paper.{readDate, wholly}
+use Rattle.date_text.proofs.Answers.{used-up, left-over}
 use Rattle.date_text.proofs.read_date.Statement.{statement}
 use Rattle.date_text.proofs.read_date.Tie as tie
-use Rattle.date_text.proofs.read_date.Reads as reads
-use Rattle.date_text.proofs.read_date.Lts as lts
-use Rattle.date_forms.proofs.inner.date_at.Reads as date-at-reads
-use Rattle.iso_date.proofs.IsoDate.check_within_limits.Reads as check-within-limits-reads
 
--- src/lib.rt:37:36
-date-at-requires : tie.Need-date-at-requires
-date-at-requires c κs = search needs
+abbrev text : tie.After-known-told → List ℕ
+text c = c .before .before .before .before .before .args .text .now
 
--- src/lib.rt:37:23
-enum-known-date : tie.Need-enum-known-date
-enum-known-date c = search needs
+date-took : (c : tie.After-known-told) → dateForm (text c) ≡ took (c .before .date .given .0 .0) (drop (c .before .date .given .0 .1 .0) (text c))
+date-took c = date-there (c .before .before .before .date-at .ensures) (c .before .date .given .1) .0
 
--- src/lib.rt:38:9
-enum-told : tie.Need-enum-told
-enum-told c = search needs
+the-date : (c : tie.Else1) → wholly (dateForm (text (c .before))) ≡ given (c .before .before .date .given .0 .0)
+the-date c = used-up _ _ _ _ (date-took (c .before)) (c .if1 .left)
 
--- src/lib.rt:38:9
 returns : tie.Need-returns
-returns c = ?
+unfolding readDate
+returns c = rw (date-missing (c .before .before .date-at .ensures) (c .enum-told .given .1))
 
--- src/lib.rt:41:9
 returns-2 : tie.Need-returns-2
-returns-2 c = ?
+unfolding readDate
+returns-2 c = rw (left-over _ _ _ _ (date-took (c .before)) (c .if1 .taken))
 
--- src/lib.rt:43:38
-check-within-limits-requires : tie.Need-check-within-limits-requires
-check-within-limits-requires c κs = search needs
-
--- src/lib.rt:43:33
-enum-known-n : tie.Need-enum-known-n
-enum-known-n c = search needs
-
--- src/lib.rt:44:9
 returns-3 : tie.Need-returns-3
-returns-3 c = ?
+unfolding readDate
+returns-3 c =
+    let l = c .before .before .before in
+    rw (the-date (l .before), sym (l .check-within-limits .ensures), c .before .n .given .1)
 
-enum-told-2 : tie.Need-enum-told-2
-enum-told-2 c = search needs
-
--- src/lib.rt:34:1
 returns-4 : tie.Need-returns-4
-returns-4 c = ?
+unfolding readDate
+returns-4 c =
+    let l = c .before .before in
+    rw (the-date (l .before), sym (l .check-within-limits .ensures), c .enum-told2 .given .1)
 
 pub read-date-spec : {M : Type 1} → statement M
 read-date-spec =
     tie.close
-    (tie.spec
-    date-at-requires
-    enum-known-date
-    enum-told
-    returns
-    returns-2
-    check-within-limits-requires
-    enum-known-n
-    returns-3
-    enum-told-2
-    returns-4)
+    (tie.spec (λ c κs. search needs) (λ c. search needs) (λ c. search needs) returns returns-2 (λ c κs. search needs) (λ c. search needs) returns-3
+    (λ c. search needs) returns-4)

@@ -1,52 +1,51 @@
+-- The form, that nothing is left, the fields.
 use borrow.Author.Needs.{needs}
+use Prim.Native.Nat.{ℕ}
+use mathlib.Core.Path.{_≡_, sym, _∙_}
+use mathlib.Core.Bool.{true, false}
+use mathlib.Core.List.{List}
+use borrow.Author.Tests.{not-true, not-false}
+use lib.ListN.{drop}
+use Rattle.refusal.specs.Answer.{given}
+use Rattle.iso_time.specs.Proposal.{isValidTime}
+use Rattle.forms.specs.Forms.{took}
+use Rattle.date_forms.specs.Grammar.{timeForm}
+use Rattle.date_forms.proofs.Years.{time-there, time-missing}
+use Rattle.date_text.specs.Paper.{readTime, wholly}
+use Rattle.date_text.proofs.Answers.{used-up, left-over}
 use Rattle.date_text.proofs.read_time.Statement.{statement}
 use Rattle.date_text.proofs.read_time.Tie as tie
-use Rattle.date_text.proofs.read_time.Reads as reads
-use Rattle.date_text.proofs.read_time.Lts as lts
-use Rattle.date_forms.proofs.inner.time_at.Reads as time-at-reads
-use Rattle.iso_time.proofs.IsoTime.is_valid.Reads as is-valid-reads
 
--- src/lib.rt:53:36
-time-at-requires : tie.Need-time-at-requires
-time-at-requires c κs = search needs
+abbrev text : tie.After-known-told → List ℕ
+text c = c .before .before .before .before .before .args .text .now
 
--- src/lib.rt:53:23
-enum-known-time : tie.Need-enum-known-time
-enum-known-time c = search needs
+time-took : (c : tie.After-known-told) → timeForm (text c) ≡ took (c .before .time .given .0 .0) (drop (c .before .time .given .0 .1 .0) (text c))
+time-took c = time-there (c .before .before .before .time-at .ensures) (c .before .time .given .1) .0
 
--- src/lib.rt:54:9
-enum-told : tie.Need-enum-told
-enum-told c = search needs
+the-time : (c : tie.Else1) → wholly (timeForm (text (c .before))) ≡ given (c .before .before .time .given .0 .0)
+the-time c = used-up _ _ _ _ (time-took (c .before)) (c .if1 .left)
 
--- src/lib.rt:54:9
 returns : tie.Need-returns
-returns c = ?
+unfolding readTime
+returns c = rw (time-missing (c .before .before .time-at .ensures) (c .enum-told .given .1))
 
--- src/lib.rt:57:9
 returns-2 : tie.Need-returns-2
-returns-2 c = ?
+unfolding readTime
+returns-2 c = rw (left-over _ _ _ _ (time-took (c .before)) (c .if1 .taken))
 
--- src/lib.rt:59:9
-is-valid-requires : tie.Need-is-valid-requires
-is-valid-requires c κs = search needs
-
--- src/lib.rt:60:9
 returns-3 : tie.Need-returns-3
-returns-3 c = ?
+unfolding readTime
+returns-3 c =
+    let v = c .before in
+    rw (the-time (v .before), sym (v .is-valid .ensures) ∙ not-true (v .is-valid .result) (c .if2 .taken))
 
--- src/lib.rt:50:1
 returns-4 : tie.Need-returns-4
-returns-4 c = ?
+unfolding readTime
+returns-4 c =
+    let v = c .before in
+    rw (the-time (v .before), sym (v .is-valid .ensures) ∙ not-false (v .is-valid .result) (c .if2 .left))
 
 pub read-time-spec : {M : Type 1} → statement M
 read-time-spec =
     tie.close
-    (tie.spec
-    time-at-requires
-    enum-known-time
-    enum-told
-    returns
-    returns-2
-    is-valid-requires
-    returns-3
-    returns-4)
+    (tie.spec (λ c κs. search needs) (λ c. search needs) (λ c. search needs) returns returns-2 (λ c κs. search needs) returns-3 returns-4)

@@ -1,57 +1,55 @@
+-- The limits, the room, and the text.
 use borrow.Author.Needs.{needs}
+use Prim.Native.Nat.{ℕ, _<_, _≤_}
+use native.Mathlib.Omega.{arith}
+use mathlib.Core.Path.{_≡_, sym, _∙_}
+use mathlib.Core.List.{List}
+use lib.ListN.{length}
+use Rattle.refusal.specs.Answer.{given, refused}
+use Rattle.iso_date.specs.Paper.{dateLimits}
+use Rattle.date_forms.specs.Texts.{dateText}
+use Rattle.date_text.specs.Paper.{writeDate}
+use Rattle.date_text.proofs.Answers.{too-short, has-room, refuses, writes}
 use Rattle.date_text.proofs.write_date.Statement.{statement}
 use Rattle.date_text.proofs.write_date.Tie as tie
-use Rattle.date_text.proofs.write_date.Reads as reads
-use Rattle.date_text.proofs.write_date.Lts as lts
-use Rattle.date_forms.proofs.inner.date_length.Reads as date-length-reads
-use Rattle.date_forms.proofs.inner.put_date.Reads as put-date-reads
-use Rattle.iso_date.proofs.IsoDate.check_within_limits.Reads as check-within-limits-reads
 
--- src/lib.rt:96:38
-check-within-limits-requires : tie.Need-check-within-limits-requires
-check-within-limits-requires c κs = search needs
+-- the record is within its limits
+within : (c : tie.After-enum-told) → dateLimits (c .before .before .before .before .args .date) ≡ given tt
+within c = rw (c .enum-told .given .1) at (sym (c .before .before .check-within-limits .ensures))
 
--- src/lib.rt:96:33
-enum-known-n : tie.Need-enum-known-n
-enum-known-n c = search needs
+refused-by : (c : tie.After-known-told) (room : ℕ) → writeDate (c .before .before .before .before .before .args .date) room ≡ refused (c .before .n .given .0 .0)
+unfolding writeDate
+refused-by c room = rw (sym (c .before .before .before .check-within-limits .ensures), c .before .n .given .1)
 
--- src/lib.rt:97:9
 returns : tie.Need-returns
-returns c = ?
+returns c = refuses _ _ _ (refused-by c _)
 
-enum-told : tie.Need-enum-told
-enum-told c = search needs
+module _ (c : tie.After-date-length) where
+  abbrev at-start : tie.Start
+  at-start = c .before .before .before .before .before
 
--- src/lib.rt:99:20
-date-length-requires : tie.Need-date-length-requires
-date-length-requires c κs = search needs
+  abbrev room : ℕ
+  room = length (at-start .args .out .now)
 
--- src/lib.rt:100:9
+  no-room : room < length (dateText (at-start .args .date)) → writeDate (at-start .args .date) room ≡ refused 10
+  unfolding writeDate
+  no-room h = rw (within (c .before)) (too-short room (dateText (at-start .args .date)) h)
+
+  enough : length (dateText (at-start .args .date)) ≤ room → writeDate (at-start .args .date) room ≡ given (dateText (at-start .args .date))
+  unfolding writeDate
+  enough h = rw (within (c .before)) (has-room room (dateText (at-start .args .date)) h)
+
 returns-2 : tie.Need-returns-2
-returns-2 c = ?
+returns-2 c = refuses _ _ _ (no-room (c .before) (omega (arith, c .before .date-length .ensures)))
 
--- src/lib.rt:102:26
-put-date-requires : tie.Need-put-date-requires
-put-date-requires c κs = search needs
-
--- src/lib.rt:92:1
-same-length : tie.Need-same-length
-same-length c = search needs
-
--- src/lib.rt:92:1
 returns-3 : tie.Need-returns-3
-returns-3 c = ?
+returns-3 c =
+    let d = c .before .before in
+    let l = d .before .before .before in
+    writes _ (enough l (omega (arith, l .date-length .ensures))) (d .put-date .ensures)
 
 pub write-date-spec : {M : Type 1} → statement M
 write-date-spec =
     tie.close
-    (tie.spec
-    check-within-limits-requires
-    enum-known-n
-    returns
-    enum-told
-    date-length-requires
-    returns-2
-    put-date-requires
-    same-length
-    returns-3)
+    (tie.spec (λ c κs. search needs) (λ c. search needs) returns (λ c. search needs) (λ c κs. search needs) returns-2
+    (λ c κs. search needs) (λ c. search needs) returns-3)

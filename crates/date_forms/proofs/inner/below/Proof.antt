@@ -26,8 +26,13 @@ sub-t6 c = let n = c .before .before .p .given .0 .0 in rw (toZ-pos w32 {n = n} 
 returns-3 : tie.Need-returns-3
 returns-3 c =
     let n = c .before .before .p .given .0 .0 in
-    rw (toZ-ofZ (sub-t6 c), toZ-pos w32 {n = n} (omega (arith, small (c .before))), c .before .before .p .given .1,
-    ne-eqb n 0 (c .if1 .left), turned n)
+    rw (
+      toZ-ofZ (sub-t6 c),
+      toZ-pos w32 {n = n} (omega (arith, small (c .before))),
+      c .before .before .p .given .1,
+      ne-eqb n 0 (c .if1 .left),
+      turned n,
+    )
 
 pub below-spec : {M : Type 1} → statement M
 below-spec =

@@ -38,8 +38,15 @@ put-marked-requires-2 c κs =
     let m = c .before .before .before .before in
     let y = m .before .before .before .before .before in
     let s = y .before .before .before .before in
-    omega (arith, date-length-is (s .args .date), year-wrote y .ends, year-wrote y .sized, m .put-marked .ensures .ends, m .put-marked .ensures .sized,
-    padded-length 2 (s .args .date .month))
+    omega (
+      arith,
+      date-length-is (s .args .date),
+      year-wrote y .ends,
+      year-wrote y .sized,
+      m .put-marked .ensures .ends,
+      m .put-marked .ensures .sized,
+      padded-length 2 (s .args .date .month),
+    )
 
 returns : tie.Need-returns
 unfolding dateText

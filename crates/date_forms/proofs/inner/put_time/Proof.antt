@@ -26,8 +26,17 @@ put-marked-requires-2 c κs =
     let m = c .before .before .before .before in
     let h = m .before .before .before .before .before in
     let s = h .before .before .before .before in
-    omega (arith, time-length-is (s .args .time), s .pre .1, h .put-padded .ensures .ends, h .put-padded .ensures .sized, padded-length 2 (s .args .time .hour),
-    m .put-marked .ensures .ends, m .put-marked .ensures .sized, padded-length 2 (s .args .time .minute))
+    omega (
+      arith,
+      time-length-is (s .args .time),
+      s .pre .1,
+      h .put-padded .ensures .ends,
+      h .put-padded .ensures .sized,
+      padded-length 2 (s .args .time .hour),
+      m .put-marked .ensures .ends,
+      m .put-marked .ensures .sized,
+      padded-length 2 (s .args .time .minute),
+    )
 
 put-fraction-requires : tie.Need-put-fraction-requires
 put-fraction-requires c κs =
@@ -35,9 +44,21 @@ put-fraction-requires c κs =
     let m = z .before .before .before .before .before in
     let h = m .before .before .before .before .before in
     let s = h .before .before .before .before in
-    omega (arith, time-length-is (s .args .time), s .pre .1, ap length (s .pre .0 .written), h .put-padded .ensures .ends, h .put-padded .ensures .sized,
-    padded-length 2 (s .args .time .hour), m .put-marked .ensures .ends, m .put-marked .ensures .sized, padded-length 2 (s .args .time .minute),
-    z .put-marked2 .ensures .ends, z .put-marked2 .ensures .sized, padded-length 2 (s .args .time .second))
+    omega (
+      arith,
+      time-length-is (s .args .time),
+      s .pre .1,
+      ap length (s .pre .0 .written),
+      h .put-padded .ensures .ends,
+      h .put-padded .ensures .sized,
+      padded-length 2 (s .args .time .hour),
+      m .put-marked .ensures .ends,
+      m .put-marked .ensures .sized,
+      padded-length 2 (s .args .time .minute),
+      z .put-marked2 .ensures .ends,
+      z .put-marked2 .ensures .sized,
+      padded-length 2 (s .args .time .second),
+    )
 
 returns : tie.Need-returns
 unfolding timeText

@@ -33,7 +33,7 @@ returns-4 c =
     let a = d .before .before .before .before .before .before .args in
     rw (c .above2 .ensures) (record {
       reads = year-plain (a .text .now) (a .at) (search needs) (d .read-digits3 .result) (d .before .before .if2 .left) (d .before .if3 .left)
-    (d .read-digits3 .ensures .reads);
+          (d .read-digits3 .ensures .reads);
       inside = above-ends (d .read-digits3 .result) _ (d .read-digits3 .ensures .inside);
     })
 

@@ -55,9 +55,13 @@ loop-again c =
     let t = c .before .before .before in
     let l = t .before .loop in
     let a = t .before .before .before .args in
-    let d = a-digit (byte t) (c .before .if1 .left) in
-    (omega arith, (grows (l .i) (l .value) (byte t - 48) (l .inv .1 .0) (omega (arith, d .1)),
-    next-digit (a .text .now) (a .at) _ _ (l .inv .1 .1) (t .loop-test .taken) (d .0)))
+    let d = a-digit (byte t) (c .before .if1 .left) in (
+      omega arith,
+      (
+        grows (l .i) (l .value) (byte t - 48) (l .inv .1 .0) (omega (arith, d .1)),
+        next-digit (a .text .now) (a .at) _ _ (l .inv .1 .1) (t .loop-test .taken) (d .0),
+      ),
+    )
 
 returns-3 : tie.Need-returns-3 Inv-loop μ-loop
 returns-3 c =

@@ -20,9 +20,13 @@ abbrev μ-loop : tie.MeasureT-loop
 loop-again : tie.Need-loop-again Inv-loop μ-loop
 loop-again c =
     let l = c .before in
-    let a = l .before .args in
-    (omega arith, (simp length-set (l .loop .inv .1 .0),
-    put-digit (l .loop .out) (a .at) (l .loop .left) (l .loop .i) (c .loop-test .taken) (omega arith) ∙ l .loop .inv .1 .1))
+    let a = l .before .args in (
+      omega arith,
+      (
+        simp length-set (l .loop .inv .1 .0),
+        put-digit (l .loop .out) (a .at) (l .loop .left) (l .loop .i) (c .loop-test .taken) (omega arith) ∙ l .loop .inv .1 .1,
+      ),
+    )
 
 returns : tie.Need-returns Inv-loop μ-loop
 returns c =

@@ -49,9 +49,13 @@ loop-again c =
     let t = c .before .before .before in
     let l = t .before in
     let a = l .before .args in
-    let d = a-digit (byte t) (c .if2 .left) in
-    (omega arith, (grows (l .loop .i) (l .loop .value) (byte t - 48) (l .loop .inv .1 .0) (omega (arith, d .1)),
-    next-digit (a .text .now) (a .at) _ _ (l .loop .inv .1 .1) (omega arith) (d .0)))
+    let d = a-digit (byte t) (c .if2 .left) in (
+      omega arith,
+      (
+        grows (l .loop .i) (l .loop .value) (byte t - 48) (l .loop .inv .1 .0) (omega (arith, d .1)),
+        next-digit (a .text .now) (a .at) _ _ (l .loop .inv .1 .1) (omega arith) (d .0),
+      ),
+    )
 
 returns-3 : tie.Need-returns-3 Inv-loop μ-loop
 returns-3 c =
