@@ -1,4 +1,4 @@
--- The calls of the line protocol, one row each: its name, its parameters, and what it answers to their numbers.
+-- The calls of the line protocol, one row each: its name, its parameters, and what it answers to their numbers; and those that read a text.
 use Prim.Native.Nat.{ℕ, suc}
 use Prim.Native.Char.{code}
 use Prim.Native.String.{String}
@@ -15,12 +15,13 @@ use Rattle.rounding.specs.Paper.{roundNumber, roundNumberAsIfPositive}
 use Rattle.date_duration.specs.Paper.{newDuration, durationSign, durationAbs, durationNegated, durationAdjust}
 use Rattle.date_math.specs.Paper.{dateSum, dateDifference}
 use Rattle.iso_date_time.specs.Paper.{dateTimeLimits, balanceDateTime, roundDateTime, dateTimeDifference, fromInstant}
+use Rattle.date_text.specs.Paper.{readDate, readTime, readDateTime, writeDate, writeTime, writeDateTime}
 use Rattle.parameters.specs.Kinds.{Kind, signed, unsigned}
 use Rattle.parameters.specs.Meaning.{at, natAt}
 use Rattle.parameters.specs.Parameters.{dateKinds, timeKinds, partsKinds, dateTimeKinds, durationKinds, choiceKinds, overflowKind, unitKind}
-use Rattle.parameters.specs.Parameters.{modeKind, dateAt, timeAt, dateTimeAt, durationAt, partAt, overflowOf, unitOf, modeOf}
+use Rattle.parameters.specs.Parameters.{modeKind, roomKind, dateAt, timeAt, dateTimeAt, durationAt, partAt, overflowOf, unitOf, modeOf}
 use Rattle.replies.specs.Replies.{shown, noValues, naturalValue, wholeValue, dateValues, yearMonthValues, timeValues, balancedValues}
-use Rattle.replies.specs.Replies.{spanValues, durationValues, signValue, dateTimeValues, recordValues}
+use Rattle.replies.specs.Replies.{spanValues, durationValues, signValue, dateTimeValues, recordValues, shownText}
 
 pub record Row : Type 0 where
   pub name : String
@@ -84,6 +85,28 @@ calls =
     (λ zs. shown recordValues (dateTimeDifference (dateTimeAt zs 0) (dateTimeAt zs 9) (unitOf (at zs 18)))) ∷
     row "datetime_from_instant" (signed 64 ∷ signed 64 ∷ signed 64 ∷ [])
     (λ zs. shown dateTimeValues (fromInstant (at zs 0) (at zs 1) (at zs 2))) ∷
+    row "write_date" (dateKinds ++ (roomKind ∷ []))
+    (λ zs. shownText (writeDate (dateAt zs 0) (natAt zs 3))) ∷
+    row "write_time" (timeKinds ++ (roomKind ∷ []))
+    (λ zs. shownText (writeTime (timeAt zs 0) (natAt zs 6))) ∷
+    row "write_datetime" (dateTimeKinds ++ (roomKind ∷ []))
+    (λ zs. shownText (writeDateTime (dateTimeAt zs 0) (natAt zs 9))) ∷
+    []
+
+-- ---- the calls that take a text, and nothing else: its name, and what it answers to the text
+
+pub record TextRow : Type 0 where
+  pub name : String
+  pub answers : List ℕ → Answer (List ℕ)
+
+abbrev textRow : String → (List ℕ → Answer (List ℕ)) → TextRow
+textRow n a = record { name = n; answers = a }
+
+abbrev pub textCalls : List TextRow
+textCalls =
+    textRow "read_date" (λ text. shown dateValues (readDate text)) ∷
+    textRow "read_time" (λ text. shown timeValues (readTime text)) ∷
+    textRow "read_datetime" (λ text. shown dateTimeValues (readDateTime text)) ∷
     []
 
 -- ---- a row by its name
@@ -110,3 +133,10 @@ takesOf name = rowNamed calls (bytes name) .takes
 
 abbrev pub answersOf : String → List ℤ → Answer (List ℕ)
 answersOf name = rowNamed calls (bytes name) .answers
+
+abbrev textRowNamed : List TextRow → List ℕ → TextRow
+textRowNamed [] name = textRow "" (λ text. given [])
+textRowNamed (r ∷ rs) name = cond (sameBytes name (bytes (r .name))) r (textRowNamed rs name)
+
+abbrev pub textAnswersOf : String → List ℕ → Answer (List ℕ)
+textAnswersOf name = textRowNamed textCalls (bytes name) .answers

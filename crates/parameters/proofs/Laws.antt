@@ -337,8 +337,8 @@ module _ (negative : Bool) (size : ℕ) (z : ℤ) (is : z ≡ cond negative (neg
 
 -- ---- a letter that is none of those told apart
 
-pub other-letter : (l : ℕ) → (l ≡ 105 → ⊥) → (l ≡ 108 → ⊥) → (l ≡ 98 → ⊥) → (l ≡ 115 → ⊥) → (l ≡ 119 → ⊥) → (l ≡ 102 → ⊥) → (l ≡ 109 → ⊥) →
+pub other-letter : (l : ℕ) → (l ≡ 105 → ⊥) → (l ≡ 108 → ⊥) → (l ≡ 98 → ⊥) → (l ≡ 115 → ⊥) → (l ≡ 119 → ⊥) → (l ≡ 102 → ⊥) → (l ≡ 109 → ⊥) → (l ≡ 114 → ⊥) →
     record { below = 0; high = 9 } ≡ boundsOf l
 unfolding boundsOf
-other-letter l a b c d e f g =
-    rw (ne-eqb l 105 a, ne-eqb l 108 b, ne-eqb l 98 c, ne-eqb l 115 d, ne-eqb l 119 e, ne-eqb l 102 f, ne-eqb l 109 g)
+other-letter l a b c d e f g h =
+    rw (ne-eqb l 105 a, ne-eqb l 108 b, ne-eqb l 98 c, ne-eqb l 115 d, ne-eqb l 119 e, ne-eqb l 102 f, ne-eqb l 109 g, ne-eqb l 114 h)

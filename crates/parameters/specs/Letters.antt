@@ -13,7 +13,7 @@ use Rattle.parameters.specs.declared.Bounds.{Bounds}
 abbrev bounds : ℕ → ℕ → Bounds
 bounds b h = record { below = b; high = h }
 
--- i, l, b, s, w, f, m, and u for the rest
+-- i, l, b, s, w, f, m, r, and u for the rest
 unfoldable pub boundsOf : ℕ → Bounds
 boundsOf letter =
     cond (eqb letter 105) (bounds (2 ^ 31) (2 ^ 31 - 1))
@@ -22,7 +22,8 @@ boundsOf letter =
     (cond (eqb letter 115) (bounds 0 65535)
     (cond (eqb letter 119) (bounds 0 (2 ^ 64 - 1))
     (cond (eqb letter 102) (bounds 0 1)
-    (cond (eqb letter 109) (bounds 0 8) (bounds 0 9)))))))
+    (cond (eqb letter 109) (bounds 0 8)
+    (cond (eqb letter 114) (bounds 0 64) (bounds 0 9))))))))
 
 abbrev pub letterKind : ℕ → Kind
 letterKind letter = record { low = negℤ (pos (boundsOf letter .below)); high = pos (boundsOf letter .high) }

@@ -48,6 +48,10 @@ unitKind = oneOf 10
 abbrev pub modeKind : Kind
 modeKind = oneOf 9
 
+-- how many bytes are lent
+abbrev pub roomKind : Kind
+roomKind = oneOf 65
+
 abbrev pub durationKinds : List Kind
 durationKinds = signed 64 ∷ signed 64 ∷ signed 64 ∷ signed 64 ∷ []
 

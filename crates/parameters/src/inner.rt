@@ -108,7 +108,7 @@ fn cell_of(x: Number) -> Cell
 }
 
 // i and l: 32 and 64 bits with a sign. b, s and w: 8, 16 and 64 bits without.
-// f: a flag. m: a rounding mode. u, and any other letter: a unit.
+// f: a flag. m: a rounding mode. r: the room in a slice that is lent. u, and any other letter: a unit.
 fn bounds_of(letter: u8) -> Bounds
     ensures { λ r. ⌜ r ≡ boundsOf letter ⌝ }
 {
@@ -135,6 +135,10 @@ fn bounds_of(letter: u8) -> Bounds
         },
         b'f' => Bounds { below: 0, high: 1 },
         b'm' => Bounds { below: 0, high: 8 },
+        b'r' => Bounds {
+            below: 0,
+            high: 64,
+        },
         _ => Bounds { below: 0, high: 9 },
     }
 }

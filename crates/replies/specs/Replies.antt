@@ -3,7 +3,7 @@ use Prim.Native.Nat.{ℕ, _+_, _≤_}
 use mathlib.Core.List.{List, [], _∷_, _++_}
 use lib.IntN.{ℤ, pos, negℤ}
 use Rattle.refusal.specs.Answer.{Answer, given, refused}
-use Rattle.lines.specs.Text.{digitZero}
+use Rattle.lines.specs.Text.{digitZero, space}
 use Rattle.writing.specs.Text.{decimal, spaced}
 use Rattle.writing.specs.Wrote.{Wrote}
 use Rattle.iso_date.specs.declared.IsoDate.{IsoDate}
@@ -26,6 +26,11 @@ replyText (refused n) = decimal (pos n)
 abbrev pub shown : {A : Type 0} → (A → List ℤ) → Answer A → Answer (List ℕ)
 shown values (given a) = given (spaced (values a))
 shown values (refused n) = refused n
+
+-- where it is a text: a space and the text
+abbrev pub shownText : Answer (List ℕ) → Answer (List ℕ)
+shownText (given text) = given (space ∷ text)
+shownText (refused n) = refused n
 
 -- the reply stands in a lent buffer from `at` on, and no other byte of it has changed; 255 bytes hold any
 pub record Replied (before : List ℕ) (at : ℕ) (a : Answer (List ℕ)) (after : List ℕ) (end : ℕ) : Type 0 where

@@ -5,7 +5,7 @@ use native.Mathlib.Omega.{arith}
 use mathlib.Core.Path.{_≡_, refl, sym, ap, _∙_}
 use mathlib.Core.List.{List, [], _∷_, _++_, append-assoc, append-nil}
 use lib.ListN.{length, take, drop, set, length-append, length-take, length-drop, length-set, take-append-drop}
-use lib.Seq.{take-set-le, drop-set-lt, drop-cons, drop-drop, getD-set-same, take-at, drop-at, length-take-le}
+use lib.Seq.{take-set-le, drop-set-lt, drop-cons, drop-drop, getD-set-same, take-add, take-take, take-at, drop-at, length-take-le}
 use Rattle.writing.specs.Wrote.{Wrote}
 
 -- the buffer with a text at its place
@@ -75,3 +75,27 @@ wrote-once {before} {text} {after} {after′} {at} {end} {end′} v w =
     let h : take end after ≡ take end after′ = v .holds ∙ sym (rw (← e) at (w .holds)) in
     let k : drop end after ≡ drop end after′ = v .keeps ∙ sym (rw (← e) at (w .keeps)) in
     (sym (take-append-drop end after) ∙ rw (h, k) (take-append-drop end after′), e)
+
+-- a text that is written before one that stands there already
+pub ahead : {a b c s t : List ℕ} {at m n : ℕ} → m ≤ length a → Wrote a m t b n → Wrote b at s c m → Wrote a at (s ++ t) c n
+ahead {a} {b} {c} {s} {t} {at} {m} {n} room v w =
+    let low : at ≤ m = omega (arith, w .ends) in
+    let start : length (take m a) ≡ m = length-take-le m a room in
+    let more : m ≤ n = omega (arith, v .ends) in
+    let e : n ≡ m + length t = v .ends in
+    let front : take m b ≡ take m a =
+    sym (take-take m n b more) ∙ ap (take m) (v .holds) ∙ take-at (take m a) t m start in
+    let text : take (length t) (drop m b) ≡ t =
+    let whole : take m b ++ take (length t) (drop m b) ≡ take m a ++ t = sym (take-add m (length t) b) ∙ ap (λ (k : ℕ). take k b) (sym e) ∙ v .holds in
+    let long : length (take m b) ≡ m = ap length front ∙ start in
+    sym (drop-at (take m b) (take (length t) (drop m b)) m long) ∙ ap (drop m) whole ∙ drop-at (take m a) t m start in
+    let before : take at b ≡ take at a = sym (take-take at m b low) ∙ ap (take at) front ∙ take-take at m a low in
+    record {
+      ends = simp length-append (omega (arith, v .ends, w .ends));
+      holds =
+          ap (λ (k : ℕ). take k c) e ∙ take-add m (length t) c ∙ rw (w .holds, w .keeps, text, before) (append-assoc (take at a) s t);
+      keeps =
+          ap (λ (k : ℕ). drop k c) e ∙ sym (drop-drop (length t) m c) ∙ ap (drop (length t)) (w .keeps) ∙ drop-drop (length t) m b ∙
+          ap (λ (k : ℕ). drop k b) (sym e) ∙ v .keeps;
+      sized = w .sized ∙ v .sized;
+    }

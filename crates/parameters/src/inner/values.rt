@@ -15,10 +15,11 @@ use options::Unit;
 use rounding::RoundingMode;
 ghost use mathlib.Core.Path.{_≡_};
 ghost use mathlib.Core.List.{[], _∷_};
-ghost use Rattle.parameters.specs.Meaning.{Holds, numbersIn, at};
+ghost use Prim.Native.Nat.{_≤_};
+ghost use Rattle.parameters.specs.Meaning.{Holds, numbersIn, at, natAt};
 ghost use Rattle.parameters.specs.Parameters.{dateKinds, timeKinds, dateTimeKinds, durationKinds, choiceKinds, overflowKind};
 ghost use Rattle.parameters.specs.Parameters.{unitKind, modeKind, dateAt, timeAt, dateTimeAt, durationAt, partAt, overflowOf, unitOf};
-ghost use Rattle.parameters.specs.Parameters.{modeOf};
+ghost use Rattle.parameters.specs.Parameters.{modeOf, roomKind};
 
 // The units and the modes by their numbers.
 const UNITS: [Unit; 10] = [
@@ -127,4 +128,12 @@ pub fn mode(n: Numbers, i: usize) -> RoundingMode
 {
     let place = word(n, i) as usize;
     MODES[place]
+}
+
+// How many bytes are lent: at most 64.
+pub fn room(n: Numbers, i: usize) -> usize
+    requires { ⌜ Holds (roomKind ∷ []) n i ⌝ }
+    ensures { λ r. ⌜ (r ≡ natAt (numbersIn n) i) × (r ≤ 64) ⌝ }
+{
+    word(n, i) as usize
 }

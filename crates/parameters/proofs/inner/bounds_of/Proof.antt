@@ -34,10 +34,15 @@ unfolding boundsOf
 returns-7 c = sym (ap boundsOf (c .match .keys7))
 
 returns-8 : tie.Need-returns-8
-returns-8 c =
+unfolding boundsOf
+returns-8 c = sym (ap boundsOf (c .match .keys8))
+
+returns-9 : tie.Need-returns-9
+returns-9 c =
     let m = c .match .rest in
-    other-letter (c .before .args .letter) (m .0 .0 .0 .0 .0 .0 .1) (m .0 .0 .0 .0 .0 .1) (m .0 .0 .0 .0 .1) (m .0 .0 .0 .1) (m .0 .0 .1) (m .0 .1) (m .1)
+    other-letter (c .before .args .letter) (m .0 .0 .0 .0 .0 .0 .0 .1) (m .0 .0 .0 .0 .0 .0 .1) (m .0 .0 .0 .0 .0 .1) (m .0 .0 .0 .0 .1) (m .0 .0 .0 .1)
+    (m .0 .0 .1) (m .0 .1) (m .1)
 
 pub bounds-of-spec : {M : Type 1} → statement M
 bounds-of-spec =
-    tie.close (tie.spec returns returns-2 returns-3 returns-4 returns-5 returns-6 returns-7 returns-8)
+    tie.close (tie.spec returns returns-2 returns-3 returns-4 returns-5 returns-6 returns-7 returns-8 returns-9)

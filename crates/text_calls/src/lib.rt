@@ -1,0 +1,2 @@
+// The calls of the line protocol that read or write text.
+pub mod inner;
