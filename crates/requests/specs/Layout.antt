@@ -40,7 +40,7 @@ filled zero text = []
 filled (suc n) [] = space ∷ filled n []
 filled (suc n) (b ∷ bs) = b ∷ filled n bs
 
--- the letter of a parameter: the first of i, l, b, s, w, f, m that means its numbers, or u
+-- the letter of a parameter: the first of i, l, b, s, w, f, m, r that means its numbers, or u
 abbrev sameKind : Kind → Kind → Bool
 sameKind j k = (leZ (j .low) (k .low) && leZ (k .low) (j .low)) && (leZ (j .high) (k .high) && leZ (k .high) (j .high))
 
@@ -50,7 +50,7 @@ firstOf (l ∷ ls) k = cond (sameKind (letterKind l) k) l (firstOf ls k)
 
 abbrev pub lettersOf : List Kind → List ℕ
 lettersOf [] = []
-lettersOf (k ∷ ks) = firstOf (105 ∷ 108 ∷ 98 ∷ 115 ∷ 119 ∷ 102 ∷ 109 ∷ []) k ∷ lettersOf ks
+lettersOf (k ∷ ks) = firstOf (105 ∷ 108 ∷ 98 ∷ 115 ∷ 119 ∷ 102 ∷ 109 ∷ 114 ∷ []) k ∷ lettersOf ks
 
 abbrev pub tableOf : List Row → List ℕ
 tableOf [] = []

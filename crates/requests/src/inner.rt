@@ -8,6 +8,12 @@ use check::same;
 use lines::word_end;
 use parameters::Numbers;
 use parameters::inner::numbers_of;
+use text_calls::inner::read_date;
+use text_calls::inner::read_datetime;
+use text_calls::inner::read_time;
+use text_calls::inner::write_date;
+use text_calls::inner::write_datetime;
+use text_calls::inner::write_time;
 use writing::inner::put_byte;
 ghost use mathlib.Core.Path.{_≡_};
 ghost use mathlib.Core.Bool.{true};
@@ -18,13 +24,13 @@ ghost use Rattle.writing.specs.Wrote.{Wrote};
 ghost use Rattle.parameters.specs.Kinds.{arguments};
 ghost use Rattle.parameters.specs.Meaning.{Reads, numbersIn};
 ghost use Rattle.replies.specs.Replies.{Replied};
-ghost use Rattle.calls.specs.Table.{calls, placeIn, noRow};
+ghost use Rattle.calls.specs.Table.{calls, textCalls, placeIn, noRow};
 ghost use Rattle.calls.specs.Ready.{Ready};
-ghost use Rattle.requests.specs.Requests.{replyTo, responseTo};
+ghost use Rattle.requests.specs.Requests.{replyByText, replyTo, responseTo};
 ghost use Rattle.requests.specs.Layout.{Spells};
 
-// How many calls there are, and how many bytes of the table each has: for its name, and in all.
-const CALLS: usize = 26;
+// How many calls take numbers, and how many bytes of the table each has: for its name, and in all.
+const CALLS: usize = 29;
 
 const NAME: usize = 28;
 
@@ -33,9 +39,9 @@ const ROW: usize = 52;
 // A longer line is no request.
 const LONGEST: usize = 1000;
 
-// The table of the calls: a name, and a letter for each parameter (`parameters::inner::bounds_of` has the letters).
+// The table of the calls that take numbers: a name, and a letter for each parameter (`parameters::inner::bounds_of` has the letters).
 // It is made once and lent to those that answer.
-pub fn table() -> [u8; 1352]
+pub fn table() -> [u8; 1508]
     ensures { λ r. ⌜ Spells r ⌝ }
 {
     *b"\
@@ -64,7 +70,10 @@ pub fn table() -> [u8; 1352]
       balance_datetime            iilllllll               \
       round_datetime              ibbbbbsssuwm            \
       datetime_difference         ibbbbbsssibbbbbsssu     \
-      datetime_from_instant       lll                     "
+      datetime_from_instant       lll                     \
+      write_date                  ibbr                    \
+      write_time                  bbbsssr                 \
+      write_datetime              ibbbbbsssr              "
 }
 
 // Writes the response from `at` on and returns the place after it. 256 bytes hold any.
@@ -90,7 +99,7 @@ fn reply(table: &[u8], line: &[u8], out: &mut [u8], at: usize) -> usize
     let end = word_end(line, 0);
     let place = place_of(table, &line[..end]);
     if place == CALLS {
-        return put_byte(out, at, b'?');
+        return answer_text(line, end, out, at);
     }
     let n = numbers_at(table, place, line, end);
     if !n.known {
@@ -171,7 +180,31 @@ fn answer(place: usize, n: Numbers, out: &mut [u8], at: usize) -> usize
         23 => date_times::round_datetime(n, out, at),
         24 => date_times::datetime_difference(n, out, at),
         25 => date_times::datetime_from_instant(n, out, at),
+        26 => write_date(n, out, at),
+        27 => write_time(n, out, at),
+        28 => write_datetime(n, out, at),
         // No place is past the last call.
         _ => at,
     }
+}
+
+// What the call that takes a text answers, where the first word of the line names one.
+fn answer_text(line: &[u8], end: usize, out: &mut [u8], at: usize) -> usize
+    requires { ⌜ (end ≡ length (word (now line))) × (at + 255 ≤ length (now out)) ⌝ }
+    ensures { λ r. ⌜ Wrote (now (out .entry)) at (replyByText textCalls (now (line .entry))) (now (out .exit)) r × (r ≤ at + 255) ⌝ }
+{
+    if end == line.len() {
+        return put_byte(out, at, b'?');
+    }
+    let start = end + 1;
+    if same(&line[..end], b"read_date") {
+        return read_date(&line[start..], out, at);
+    }
+    if same(&line[..end], b"read_time") {
+        return read_time(&line[start..], out, at);
+    }
+    if same(&line[..end], b"read_datetime") {
+        return read_datetime(&line[start..], out, at);
+    }
+    put_byte(out, at, b'?')
 }

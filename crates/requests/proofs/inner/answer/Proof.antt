@@ -5,8 +5,8 @@ use Rattle.requests.proofs.Laws.{ready-at, answer-at, past}
 use Rattle.requests.proofs.inner.answer.Statement.{statement}
 use Rattle.requests.proofs.inner.answer.Tie as tie
 
-returns-27 : tie.Need-returns-27
-returns-27 c = let f : ⊥ = omega (arith, past 26 _ (c .match .rest), c .before .before .pre .0) in absurd f
+returns-30 : tie.Need-returns-30
+returns-30 c = let f : ⊥ = omega (arith, past 29 _ (c .match .rest), c .before .before .pre .0) in absurd f
 
 pub answer-spec : {M : Type 1} → statement M
 answer-spec =
@@ -36,7 +36,10 @@ answer-spec =
     (λ c κs. ready-at (c .before .match .keys23) (c .before .before .before .pre .1))
     (λ c κs. ready-at (c .before .match .keys24) (c .before .before .before .pre .1))
     (λ c κs. ready-at (c .before .match .keys25) (c .before .before .before .pre .1))
-    (λ c κs. ready-at (c .before .match .keys26) (c .before .before .before .pre .1)) (λ c. search needs)
+    (λ c κs. ready-at (c .before .match .keys26) (c .before .before .before .pre .1))
+    (λ c κs. ready-at (c .before .match .keys27) (c .before .before .before .pre .1))
+    (λ c κs. ready-at (c .before .match .keys28) (c .before .before .before .pre .1))
+    (λ c κs. ready-at (c .before .match .keys29) (c .before .before .before .pre .1)) (λ c. search needs)
     (λ c. answer-at (c .before .before .before .before .match .keys1) _ (c .before .before .month-length .ensures)) (λ c. search needs)
     (λ c. answer-at (c .before .before .before .before .match .keys2) _ (c .before .before .date-to-day .ensures)) (λ c. search needs)
     (λ c. answer-at (c .before .before .before .before .match .keys3) _ (c .before .before .day-to-date .ensures)) (λ c. search needs)
@@ -63,4 +66,7 @@ answer-spec =
     (λ c. search needs) (λ c. answer-at (c .before .before .before .before .match .keys24) _ (c .before .before .round-datetime .ensures))
     (λ c. search needs) (λ c. answer-at (c .before .before .before .before .match .keys25) _ (c .before .before .datetime-difference .ensures))
     (λ c. search needs) (λ c. answer-at (c .before .before .before .before .match .keys26) _ (c .before .before .datetime-from-instant .ensures))
-    returns-27)
+    (λ c. search needs) (λ c. answer-at (c .before .before .before .before .match .keys27) _ (c .before .before .write-date .ensures))
+    (λ c. search needs) (λ c. answer-at (c .before .before .before .before .match .keys28) _ (c .before .before .write-time .ensures))
+    (λ c. search needs) (λ c. answer-at (c .before .before .before .before .match .keys29) _ (c .before .before .write-datetime .ensures))
+    returns-30)

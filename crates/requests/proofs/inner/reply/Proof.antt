@@ -15,7 +15,7 @@ use Rattle.parameters.specs.Kinds.{arguments}
 use Rattle.parameters.specs.Meaning.{Reads}
 use Rattle.parameters.proofs.Laws.{holds-all}
 use Rattle.calls.specs.Table.{calls, noRow, placeIn}
-use Rattle.requests.proofs.Laws.{empty-reply, long-reply, unknown-reply, no-reply, good-reply, place-most}
+use Rattle.requests.proofs.Laws.{empty-reply, long-reply, text-reply, no-reply, good-reply, place-most}
 use Rattle.requests.proofs.inner.reply.Statement.{statement}
 use Rattle.requests.proofs.inner.reply.Tie as tie
 
@@ -59,9 +59,9 @@ returns-3 c =
     let p = c .before .before in
     let t = p .before .before in
     let w = t .before .before .before in (
-      wrote-as (p .put-byte2 .ensures) (unknown-reply (line w) (w .before .before .if1 .left) (w .before .if2 .left) _ (named (t .before))
+      wrote-as (p .answer-text .ensures .0) (text-reply (line w) (w .before .before .if1 .left) (w .before .if2 .left) _ (named (t .before))
           (t .if3 .taken)),
-      omega (arith, p .put-byte2 .ensures .ends),
+      p .answer-text .ensures .1,
     )
 
 known : (c : tie.Else3) → c .before .place-of .result < length calls
@@ -81,10 +81,10 @@ returns-4 c =
     let p = c .before .before in
     let n = p .before .before .before .before in
     let w = n .before .before .before .before in (
-      wrote-as (p .put-byte3 .ensures)
+      wrote-as (p .put-byte2 .ensures)
           (no-reply (line w) (w .before .before .if1 .left) (w .before .if2 .left) _ (named (n .before .before)) (known (n .before)) _ (read n)
           (not-true _ (p .before .before .if4 .taken))),
-      omega (arith, p .put-byte3 .ensures .ends),
+      omega (arith, p .put-byte2 .ensures .ends),
     )
 
 answer-requires : tie.Need-answer-requires
