@@ -1,2 +1,3 @@
 pub mod Answers
+pub mod Pinned
 pub mod Theorems

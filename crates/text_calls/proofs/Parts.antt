@@ -55,10 +55,10 @@ module _ (out part′ : List ℕ) (at room : ℕ) (inside : at + 255 ≤ length 
   lent-long = part-long out (at + 2) room (omega arith)
 
   -- what the head asks for, when a writer has answered to the room that it is lent
-  pub head-asks : (writes : ℕ → Answer (List ℕ)) (r : LengthResult) →
+  head-asks-all : (writes : ℕ → Answer (List ℕ)) (r : LengthResult) →
       (ofLength r ≡ lengthOf (writes (length lent))) × (part′ ≡ afterwards lent (writes (length lent))) →
       (at + 255 ≤ length (putMid (at + 2) room out part′)) × (behind r ≤ 64)
-  head-asks writes r wrote =
+  head-asks-all writes r wrote =
       let most = behind-fits lent part′ (writes (length lent)) r (wrote .0) (wrote .1) same in
       (rw (same-len-mid (at + 2) room out part′ same) inside, omega (arith, most, lent-long))
 
@@ -84,12 +84,35 @@ module _ (out part′ : List ℕ) (at room : ℕ) (inside : at + 255 ≤ length 
         rw (← same-number) (record { wrote = rw (← g) (rw back at w); short = omega arith })
 
     -- the reply is what it answers
-    pub text-replied : (writes : ℕ → Answer (List ℕ)) (r : LengthResult) →
+    text-replied-all : (writes : ℕ → Answer (List ℕ)) (r : LengthResult) →
         (ofLength r ≡ lengthOf (writes (length lent))) × (part′ ≡ afterwards lent (writes (length lent))) →
         Wrote (putMid (at + 2) room out part′) at (headOf r) out′ (at + length (headOf r)) × ((end ≡ at + length (headOf r) + behind r) × (length (headOf r) ≤ 20)) →
         Replied out at (shownText (writes room)) out′ end
-    text-replied writes r wrote head =
+    text-replied-all writes r wrote head =
         rw (← lent-long) (headed (writes (length lent)) r (wrote .0) (wrote .1) (head .0) (head .1 .0) (head .1 .1))
+
+-- the same of the room as the code has it: what lies between the part's start and its end
+abbrev pub between : ℕ → ℕ → ℕ
+between at room = at + 2 + room - (at + 2)
+
+between-is : (at room : ℕ) → between at room ≡ room
+between-is at room = omega arith
+
+module _ (out part′ : List ℕ) (at room : ℕ) (inside : at + 255 ≤ length out) (small : room ≤ 64)
+    (same : length part′ ≡ length (midOf (at + 2) (between at room) out)) (writes : ℕ → Answer (List ℕ)) (r : LengthResult)
+    (wrote : (ofLength r ≡ lengthOf (writes (length (midOf (at + 2) (between at room) out)))) ×
+    (part′ ≡ afterwards (midOf (at + 2) (between at room) out) (writes (length (midOf (at + 2) (between at room) out))))) where
+  few : between at room ≤ 64
+  few = omega (arith, between-is at room)
+
+  pub head-asks : (at + 255 ≤ length (putMid (at + 2) (between at room) out part′)) × (behind r ≤ 64)
+  head-asks = head-asks-all out part′ at (between at room) inside few same writes r wrote
+
+  pub text-replied : (out′ : List ℕ) (end : ℕ) →
+      Wrote (putMid (at + 2) (between at room) out part′) at (headOf r) out′ (at + length (headOf r)) ×
+      ((end ≡ at + length (headOf r) + behind r) × (length (headOf r) ≤ 20)) → Replied out at (shownText (writes room)) out′ end
+  text-replied out′ end head =
+      rw (← (between-is at room)) (text-replied-all out part′ at (between at room) inside few same out′ end writes r wrote head)
 
 -- a text ends where its length says
 pub ends-there : {before text after : List ℕ} {at end : ℕ} → Wrote before at text after end → Wrote before at text after (at + length text)

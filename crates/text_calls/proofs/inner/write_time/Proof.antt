@@ -1,7 +1,5 @@
 use borrow.Author.Needs.{needs}
-use Prim.Native.Nat.{_+_, _-_, _≤_}
-use native.Mathlib.Omega.{arith}
-use mathlib.Core.Path.{_≡_, ap, _∙_}
+use mathlib.Core.Path.{_≡_}
 use Rattle.parameters.proofs.Laws.{holds-at}
 use Rattle.replies.proofs.Laws.{replied-as}
 use Rattle.date_text.specs.Paper.{writeTime}
@@ -9,19 +7,13 @@ use Rattle.text_calls.proofs.Parts.{head-asks, text-replied}
 use Rattle.text_calls.proofs.inner.write_time.Statement.{statement}
 use Rattle.text_calls.proofs.inner.write_time.Tie as tie
 
--- the room that is lent
-room-is : (c : tie.After-room) → c .before .before .before .args .at + 2 + c .room .result - (c .before .before .before .args .at + 2) ≡ c .room .result
-room-is c = omega arith
-
-few : (c : tie.After-room) → c .before .before .before .args .at + 2 + c .room .result - (c .before .before .before .args .at + 2) ≤ 64
-few c = omega (arith, room-is c, c .room .ensures)
-
 put-head-requires : tie.Need-put-head-requires
 put-head-requires c κs =
     let w = c .before .before .before in
     let r = w .before .before in
-    head-asks _ _ _ _ (r .before .before .before .pre .room) (few r) (w .write-time .kept .1 .0) (writeTime (r .before .time .result))
-    (w .write-time .result) (w .write-time .ensures)
+    let s = r .before .before .before in
+    head-asks _ _ _ _ (s .pre .room) (r .room .ensures .1) (w .write-time .kept .1 .0) (writeTime (r .before .time .result)) (w .write-time .result)
+    (w .write-time .ensures)
 
 returns : tie.Need-returns
 returns c =
@@ -29,9 +21,8 @@ returns c =
     let w = d .before .before .before .before in
     let r = w .before .before in
     let s = r .before .before .before in
-    let reply = text-replied _ _ _ _ (s .pre .room) (few r) (w .write-time .kept .1 .0) _ _ (writeTime (r .before .time .result))
-    (w .write-time .result) (w .write-time .ensures) (d .put-head .ensures) in
-    replied-as reply (rw (r .before .time .ensures, room-is r, r .room .ensures .0))
+    replied-as (text-replied _ _ _ _ (s .pre .room) (r .room .ensures .1) (w .write-time .kept .1 .0) (writeTime (r .before .time .result))
+    (w .write-time .result) (w .write-time .ensures) _ _ (d .put-head .ensures)) (rw (r .before .time .ensures, r .room .ensures .0))
 
 pub write-time-spec : {M : Type 1} → statement M
 write-time-spec =
