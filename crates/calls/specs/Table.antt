@@ -93,7 +93,7 @@ calls =
     (λ zs. shownText (writeDateTime (dateTimeAt zs 0) (natAt zs 9))) ∷
     []
 
--- ---- the calls that take a text, and nothing else: its name, and what it answers to the text
+-- ---- the calls that take a text and nothing else, one row each: its name, and what it answers to the text
 
 pub record TextRow : Type 0 where
   pub name : String

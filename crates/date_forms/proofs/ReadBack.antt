@@ -8,11 +8,8 @@ use mathlib.Core.List.{List, [], _∷_, _++_, append-assoc}
 use borrow.Author.Tests.{ne-eqb}
 use lib.Dec.{eqb}
 use lib.IntN.{ℤ, pos, negsuc, natAbs}
-use lib.Signed.{leZ, ltZ}
-use Rattle.whole.proofs.Tests.{and-false}
 use Rattle.whole.proofs.Laws.{ints, split}
-use Rattle.lines.specs.Text.{isDigit}
-use Rattle.forms.specs.Forms.{took, nothing, marked, digit, digits, padded, fractionText}
+use Rattle.forms.specs.Forms.{took, nothing, marked, digits, padded, fractionText}
 use Rattle.forms.proofs.Padded.{digits-back}
 use Rattle.forms.proofs.Shortest.{marked-back, fraction-or-none}
 use Rattle.iso_date.specs.declared.IsoDate.{IsoDate}
@@ -21,34 +18,22 @@ use Rattle.iso_time.specs.declared.IsoTime.{IsoTime}
 use Rattle.iso_time.proofs.Times.{Valid, read-valid}
 use Rattle.date_forms.specs.Grammar.{plus, hyphen, colon, yearForm, dateForm, secondsForm, clockTime, seconds, timeForm}
 use Rattle.date_forms.specs.Texts.{yearText, dateText, billionthsOf, timeText}
+use Rattle.date_forms.proofs.Years.{no-four}
+use Rattle.date_forms.proofs.Texts.{minus-year, plus-year, short-year}
 
 -- ---- years
 
 -- which of its three texts a year has
 pub year-four : (n : ℕ) → n < 10_000 → yearText (pos n) ≡ padded 4 n
-unfolding yearText
-year-four n h =
-    let low : leZ (pos 0) (pos n) ≡ true = omega (arith, ints) in
-    let high : leZ (pos n) (pos 9_999) ≡ true = omega (arith, ints) in
-    rw (low, high)
+year-four n h = short-year (pos n) (omega (arith, ints)) (omega (arith, ints))
 
 pub year-plus : (n : ℕ) → 10_000 ≤ n → yearText (pos n) ≡ plus ∷ padded 6 n
-unfolding yearText
-year-plus n h =
-    let high : leZ (pos n) (pos 9_999) ≡ false = omega (arith, ints) in
-    let above : ltZ (pos n) (pos 0) ≡ false = omega (arith, ints) in
-    rw (high, above, and-false (leZ (pos 0) (pos n)))
+year-plus n h = plus-year (pos n) (omega (arith, ints)) (omega (arith, ints))
 
 pub year-minus : (n : ℕ) → yearText (negsuc n) ≡ hyphen ∷ padded 6 (suc n)
-unfolding yearText
-year-minus n = refl
+year-minus n = minus-year (negsuc n) refl
 
--- a sign is no digit
-signed : (sign : ℕ) (rest : List ℕ) → isDigit sign ≡ false → digits 4 (sign ∷ rest) ≡ nothing
-unfolding digits digit
-signed sign rest e = rw e
-
--- and one sign is not the other
+-- one sign is not the other
 other-mark : (mark other : ℕ) (rest : List ℕ) → eqb other mark ≡ false → marked mark (digits 6) (other ∷ rest) ≡ nothing
 unfolding marked
 other-mark mark other rest e = rw e
@@ -58,12 +43,12 @@ unfolding yearForm
 year-back (pos n) rest h =
     ⊎-elim
     (λ few. rw (year-four n few, digits-back 4 n rest few))
-    (λ many. rw (year-plus n many, signed plus (padded 6 n ++ rest) refl, marked-back plus 6 n rest (omega arith)))
+    (λ many. rw (year-plus n many, no-four plus (padded 6 n ++ rest) refl, marked-back plus 6 n rest (omega arith)))
     (split n 10_000)
 year-back (negsuc n) rest h =
     rw (
       year-minus n,
-      signed hyphen (padded 6 (suc n) ++ rest) refl,
+      no-four hyphen (padded 6 (suc n) ++ rest) refl,
       other-mark plus hyphen (padded 6 (suc n) ++ rest) refl,
       marked-back hyphen 6 (suc n) rest (omega arith),
       ne-eqb (suc n) 0 (λ e. omega (arith, e)),

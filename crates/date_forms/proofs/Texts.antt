@@ -1,23 +1,22 @@
 -- The texts of dates and times: which form a year takes, and how long they are.
-use Prim.Native.Nat.{ℕ, _+_, _≤_, _<_}
+use Prim.Native.Nat.{ℕ, _+_}
 use native.Mathlib.Omega.{arith}
-use mathlib.Core.Path.{_≡_, refl, sym, ap, _∙_}
+use mathlib.Core.Path.{_≡_, refl, ap, _∙_}
 use mathlib.Core.Bool.{Bool, true, false, cond, _||_}
-use mathlib.Core.List.{List, _∷_}
+use mathlib.Core.List.{_∷_}
 use borrow.Author.Tests.{eq-eqb, ne-eqb}
 use lib.Dec.{eqb}
 use lib.IntN.{ℤ, pos, negℤ, natAbs}
 use lib.Signed.{leZ, ltZ}
 use lib.ListN.{length, length-append}
 use Rattle.whole.proofs.Laws.{ints, size-neg}
-use Rattle.whole.proofs.Tests.{one-of, neither}
+use Rattle.whole.proofs.Tests.{neither}
 use Rattle.forms.specs.Forms.{padded, pointed, fractionText}
 use Rattle.forms.specs.declared.Trimmed.{Trimmed}
 use Rattle.forms.proofs.Padded.{padded-length}
 use Rattle.forms.proofs.Fractions.{pointed-none, pointed-some}
 use Rattle.date_forms.specs.Grammar.{plus, hyphen}
 use Rattle.date_forms.specs.Texts.{yearText, dateText, timeText, billionthsOf}
-use Rattle.date_forms.specs.Pieces.{Fraction}
 use Rattle.iso_date.specs.declared.IsoDate.{IsoDate}
 use Rattle.iso_time.specs.declared.IsoTime.{IsoTime}
 

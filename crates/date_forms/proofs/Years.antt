@@ -4,7 +4,7 @@ use native.Mathlib.Omega.{arith}
 use native.Mathlib.Numerals.{add-one}
 use mathlib.Core.Path.{_≡_, refl, sym, ap, _∙_}
 use mathlib.Core.Bool.{Bool, true, false, cond}
-use mathlib.Core.List.{List, [], _∷_}
+use mathlib.Core.List.{List, _∷_}
 use borrow.Author.Tests.{ne-eqb}
 use lib.Dec.{eqb}
 use lib.IntN.{ℤ, pos, negℤ, _-ℤ_}
@@ -32,7 +32,8 @@ use Rattle.iso_time.specs.declared.IsoTime.{IsoTime}
 
 -- ---- by the first byte
 
-no-four : (b : ℕ) (rest : List ℕ) → isDigit b ≡ false → digits 4 (b ∷ rest) ≡ nothing
+-- a sign is no digit
+pub no-four : (b : ℕ) (rest : List ℕ) → isDigit b ≡ false → digits 4 (b ∷ rest) ≡ nothing
 unfolding digits digit
 no-four b rest bad = let one : digits 1 (b ∷ rest) ≡ nothing = rw bad in fewer 3 1 (b ∷ rest) one 4 refl
 
@@ -112,19 +113,22 @@ module _ (s : List ℕ) (at : ℕ) (inside : at < length s) (r : Piece) where
 
 -- ---- what is read, from the answers of the functions that read
 
-pub year-there : {s : List ℕ} {p : Parsed ℤ} {r : Y′.YearPiece} {y : ℤ} {end : ℕ} → ReadsYear s p r → r ≡ Y.Is y end → (p ≡ took y (drop end s)) × (end ≤ length s)
+pub year-there : {s : List ℕ} {p : Parsed ℤ} {r : Y′.YearPiece} {y : ℤ} {end : ℕ} → ReadsYear s p r → r ≡ Y.Is y end →
+    (p ≡ took y (drop end s)) × (end ≤ length s)
 year-there h e = (sym (rw e at (h .reads)), rw e at (h .inside))
 
 pub year-missing : {s : List ℕ} {p : Parsed ℤ} {r : Y′.YearPiece} → ReadsYear s p r → r ≡ Y.Not → p ≡ nothing
 year-missing h e = sym (rw e at (h .reads))
 
-pub date-there : {s : List ℕ} {p : Parsed IsoDate} {r : D′.DatePiece} {d : IsoDate} {end : ℕ} → ReadsDate s p r → r ≡ D.Is d end → (p ≡ took d (drop end s)) × (end ≤ length s)
+pub date-there : {s : List ℕ} {p : Parsed IsoDate} {r : D′.DatePiece} {d : IsoDate} {end : ℕ} → ReadsDate s p r → r ≡ D.Is d end →
+    (p ≡ took d (drop end s)) × (end ≤ length s)
 date-there h e = (sym (rw e at (h .reads)), rw e at (h .inside))
 
 pub date-missing : {s : List ℕ} {p : Parsed IsoDate} {r : D′.DatePiece} → ReadsDate s p r → r ≡ D.Not → p ≡ nothing
 date-missing h e = sym (rw e at (h .reads))
 
-pub time-there : {s : List ℕ} {p : Parsed IsoTime} {r : T′.TimePiece} {t : IsoTime} {end : ℕ} → ReadsTime s p r → r ≡ T.Is t end → (p ≡ took t (drop end s)) × (end ≤ length s)
+pub time-there : {s : List ℕ} {p : Parsed IsoTime} {r : T′.TimePiece} {t : IsoTime} {end : ℕ} → ReadsTime s p r → r ≡ T.Is t end →
+    (p ≡ took t (drop end s)) × (end ≤ length s)
 time-there h e = (sym (rw e at (h .reads)), rw e at (h .inside))
 
 pub time-missing : {s : List ℕ} {p : Parsed IsoTime} {r : T′.TimePiece} → ReadsTime s p r → r ≡ T.Not → p ≡ nothing

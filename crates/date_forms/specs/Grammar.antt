@@ -1,4 +1,4 @@
--- Dates and times as text: what a date and a time begin with, one production after the other, and what they say. The form is the
+-- Dates and times as text: which texts begin with a date or a time, one production after the other, and what they say. The form is the
 -- proposal's extended form, without what the rules leave out of it.
 use Prim.Native.Nat.{ℕ, _/_, _%_}
 use mathlib.Core.Bool.{cond}
@@ -22,7 +22,7 @@ colon = 58
 
 -- ---- dates
 
--- years 0000 to 9999 in four digits
+-- four digits: a year from 0 to 9999
 abbrev pub fourDigits : List ℕ → Parsed ℤ
 fourDigits text = thenRead (digits 4 text) (λ n rest. took (pos n) rest)
 
@@ -62,7 +62,8 @@ secondsForm text =
     thenRead (orElse (fraction t) (took 0 t)) (λ f rest.
     took (seconds s f) rest))
 
--- what the numbers of a clock say: second 60 is read as 59
+-- what the numbers of a clock say. Second 60 counts as 59; of the nine digits of the fraction the first three are milliseconds, the next
+-- three microseconds, the last three nanoseconds
 unfoldable pub clockTime : ℕ → ℕ → Seconds → IsoTime
 clockTime h m s =
     time h m (cond (eqb (s .second) 60) 59 (s .second))

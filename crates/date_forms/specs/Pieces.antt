@@ -6,13 +6,11 @@ use mathlib.Core.List.{List}
 use lib.Dec.{eqb}
 use lib.IntN.{ℤ, pos, negℤ}
 use lib.ListN.{length, drop}
-use Rattle.forms.specs.Forms.{Parsed, took, nothing, padded, pointed, fractionText}
-use Rattle.forms.specs.declared.Trimmed.{Trimmed}
+use Rattle.forms.specs.Forms.{Parsed, took, nothing}
 use Rattle.forms.specs.declared.Piece.{Piece}
 use Rattle.forms.specs.declared.Piece.the-variants as P
 use Rattle.iso_date.specs.declared.IsoDate.{IsoDate}
 use Rattle.iso_time.specs.declared.IsoTime.{IsoTime}
-use Rattle.date_forms.specs.Texts.{billionthsOf}
 use Rattle.date_forms.specs.declared.YearPiece.{YearPiece}
 use Rattle.date_forms.specs.declared.YearPiece.the-variants as Y
 use Rattle.date_forms.specs.declared.DatePiece.{DatePiece}
@@ -66,8 +64,3 @@ yearAbove P.Not = Y.Not
 abbrev pub yearBelow : Piece → YearPiece
 yearBelow (P.Is n end) = cond (eqb n 0) Y.Not (Y.Is (negℤ (pos n)) end)
 yearBelow P.Not = Y.Not
-
--- the digits of a time's fraction of a second, without the zeros at their end
-pub record Fraction (t : IsoTime) (f : Trimmed) : Type 0 where
-  pub few : f .count ≤ 9
-  pub written : pointed (padded (f .count) (f .value)) ≡ fractionText (billionthsOf t)

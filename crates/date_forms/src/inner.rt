@@ -16,14 +16,16 @@ use iso_time::IsoTime;
 use whole::inner::size_of_negative;
 use whole::inner::to_natural;
 ghost use mathlib.Core.Path.{_≡_};
+ghost use mathlib.Core.Bool.{true};
 ghost use Prim.Native.Nat.{_+_, _^_, _≤_, _<_};
 ghost use lib.ListN.{length, drop};
 ghost use Rattle.writing.specs.Wrote.{Wrote};
 ghost use Rattle.forms.specs.Forms.{padded, pointed};
-ghost use Rattle.forms.specs.Pieces.{valueIn};
+ghost use Rattle.forms.specs.Pieces.{valueIn, Trims};
+ghost use Rattle.iso_time.specs.Proposal.{isValidTime};
 ghost use Rattle.date_forms.specs.Grammar.{yearForm, dateForm, timeForm, clockTime, seconds};
-ghost use Rattle.date_forms.specs.Texts.{yearText, dateText, timeText};
-ghost use Rattle.date_forms.specs.Pieces.{ReadsYear, ReadsDate, ReadsTime, yearAbove, yearBelow, Fraction};
+ghost use Rattle.date_forms.specs.Texts.{yearText, dateText, timeText, billionthsOf};
+ghost use Rattle.date_forms.specs.Pieces.{ReadsYear, ReadsDate, ReadsTime, yearAbove, yearBelow};
 
 // The last year that four digits say.
 const FOUR_DIGITS: i32 = 9999;
@@ -113,7 +115,7 @@ pub fn time_at(text: &[u8], at: usize) -> TimePiece
     TimePiece::Is(clock(hour, minute, second, billionths), end)
 }
 
-// The time that the numbers of a text say: second 60 is read as 59.
+// The time that the numbers of a text say. Second 60 counts as 59: there are no leap seconds here.
 fn clock(hour: u64, minute: u64, second: u64, billionths: u64) -> IsoTime
     requires { ⌜ ((hour < 100) × (minute < 100)) × ((second < 100) × (billionths < 10 ^ 9)) ⌝ }
     ensures { λ r. ⌜ r ≡ clockTime hour minute (seconds second billionths) ⌝ }
@@ -167,7 +169,7 @@ pub fn date_length(date: IsoDate) -> usize
 
 // Writes a time, whatever stands in it, with the digits of its fraction.
 pub fn put_time(out: &mut [u8], at: usize, time: IsoTime, fraction: Trimmed) -> usize
-    requires { ⌜ Fraction time fraction × (at + length (timeText time) ≤ length (now out)) ⌝ }
+    requires { ⌜ Trims (billionthsOf time) fraction × (at + length (timeText time) ≤ length (now out)) ⌝ }
     ensures { λ r. ⌜ Wrote (now (out .entry)) at (timeText time) (now (out .exit)) r ⌝ }
 {
     let m = put_padded(out, at, 2, time.hour as u64);
@@ -176,9 +178,10 @@ pub fn put_time(out: &mut [u8], at: usize, time: IsoTime, fraction: Trimmed) -> 
     put_fraction(out, f, fraction)
 }
 
-// The digits of a time's fraction of a second.
+// The digits of a valid time's fraction of a second.
 pub fn fraction_of(time: IsoTime) -> Trimmed
-    ensures { λ r. ⌜ Fraction time r ⌝ }
+    requires { ⌜ isValidTime time ≡ true ⌝ }
+    ensures { λ r. ⌜ Trims (billionthsOf time) r ⌝ }
 {
     let micros = time.millisecond as u64 * 1_000 + time.microsecond as u64;
     trim(micros * 1_000 + time.nanosecond as u64)

@@ -1,14 +1,14 @@
 -- What follows of a text that was used up or not, and of a text that was written or not.
 use Prim.Native.Nat.{ℕ, _+_, _≤_, _<_}
 use native.Mathlib.Omega.{arith}
-use mathlib.Core.Path.{_≡_, refl, sym, ap, _∙_}
-use mathlib.Core.List.{List, [], _∷_, _++_}
+use mathlib.Core.Path.{_≡_, sym, _∙_}
+use mathlib.Core.List.{List, _++_}
 use borrow.Author.Tests.{le-leb, lt-leb}
-use lib.ListN.{length, getD, take, drop, length-append, drop-of-length-le, take-append-drop}
+use lib.ListN.{length, drop, length-append, drop-of-length-le, take-append-drop}
 use lib.Seq.{drop-cons}
 use Rattle.refusal.specs.Answer.{Answer, given, refused}
 use Rattle.writing.specs.Wrote.{Wrote}
-use Rattle.forms.specs.Forms.{Parsed, took, nothing}
+use Rattle.forms.specs.Forms.{Parsed, took}
 use Rattle.iso_date_time.specs.declared.IsoDateTime.{IsoDateTime}
 use Rattle.date_forms.specs.Texts.{dateText, timeText}
 use Rattle.date_text.specs.Paper.{dateTimeText, wholly, fitting, lengthOf, afterwards}

@@ -24,7 +24,7 @@ ghost use Rattle.iso_date_time.specs.Paper.{ofDateTime};
 ghost use Rattle.date_text.specs.Paper.{readDate, readTime, readDateTime, writeDate, writeTime, writeDateTime};
 ghost use Rattle.date_text.specs.Paper.{ofLength, lengthOf, afterwards};
 
-// How many bytes a writer wrote.
+// How many bytes a writer wrote, or the number of its refusal.
 pub enum LengthResult {
     Length(usize),
     Refused(u8),
@@ -88,7 +88,8 @@ pub fn read_datetime(text: &[u8]) -> DateTimeResult
     DateTimeResult::DateTime(stamp)
 }
 
-// Writes the text of a date at the start of the slice: the record (1, 2), then the room (10).
+// Writes the text of a date at the start of the slice and answers its length: the record (1, 2), then the room (10). A refusal changes no
+// byte of the slice.
 pub fn write_date(date: IsoDate, out: &mut [u8]) -> LengthResult
     ensures { λ r. ⌜ (ofLength r ≡ lengthOf (writeDate date (length (now (out .entry))))) ×
         (now (out .exit) ≡ afterwards (now (out .entry)) (writeDate date (length (now (out .entry))))) ⌝ }
@@ -102,7 +103,8 @@ pub fn write_date(date: IsoDate, out: &mut [u8]) -> LengthResult
     LengthResult::Length(put_date(out, 0, date))
 }
 
-// Writes the text of a time at the start of the slice: the record (1), then the room (10).
+// Writes the text of a time at the start of the slice and answers its length: the record (1), then the room (10). A refusal changes no
+// byte of the slice.
 pub fn write_time(time: IsoTime, out: &mut [u8]) -> LengthResult
     ensures { λ r. ⌜ (ofLength r ≡ lengthOf (writeTime time (length (now (out .entry))))) ×
         (now (out .exit) ≡ afterwards (now (out .entry)) (writeTime time (length (now (out .entry))))) ⌝ }
@@ -117,7 +119,8 @@ pub fn write_time(time: IsoTime, out: &mut [u8]) -> LengthResult
     LengthResult::Length(put_time(out, 0, time, fraction))
 }
 
-// Writes the text of a date with a time at the start of the slice: the record (1, 3), then the room (10).
+// Writes the text of a date with a time at the start of the slice and answers its length: the record (1, 3), then the room (10). A
+// refusal changes no byte of the slice.
 pub fn write_datetime(stamp: IsoDateTime, out: &mut [u8]) -> LengthResult
     ensures { λ r. ⌜ (ofLength r ≡ lengthOf (writeDateTime stamp (length (now (out .entry))))) ×
         (now (out .exit) ≡ afterwards (now (out .entry)) (writeDateTime stamp (length (now (out .entry))))) ⌝ }

@@ -3,24 +3,23 @@ use Prim.Native.Nat.{ℕ, zero, suc, _+_, _-_, _*_, _/_, _%_, _^_, _≤_, _<_}
 use native.Mathlib.Omega.{arith}
 use native.Mathlib.Nat.{pow-suc, add-zero, mul-one, mul-comm, mul-assoc, mul-lt-mul-of-pos-right}
 use lib.Pow.{pow-add}
-use mathlib.Core.Path.{_≡_, refl, sym, ap, _∙_}
+use mathlib.Core.Path.{_≡_, refl, sym, ap, ap₂, _∙_}
 use mathlib.Core.Bool.{true, false}
 use mathlib.Core.Logic.{⊎-elim}
 use mathlib.Core.List.{List, [], _∷_, _++_, append-assoc, append-nil}
 use borrow.Author.Tests.{le-leb, lt-leb, eq-eqb, ne-eqb}
 use lib.Dec.{leb}
-use lib.ListN.{length, getD, drop, replicate, length-append, drop-of-length-le, replicate-append-replicate}
+use lib.ListN.{length, getD, drop, replicate, length-append, drop-of-length-le}
 use lib.Seq.{drop-cons}
 use Rattle.whole.proofs.Tests.{and-false}
 use Rattle.whole.proofs.Laws.{split}
 use Rattle.whole.proofs.Every.{every-equal}
 use Rattle.lines.specs.Text.{digitZero, isDigit}
-use Rattle.forms.specs.Forms.{Parsed, took, nothing, thenRead, digits, padded, run, filled, keep, trimmed, point, pointed}
-use Rattle.forms.specs.Pieces.{Reads, filledPiece}
-use Rattle.forms.specs.declared.Piece.{Piece}
-use Rattle.forms.specs.declared.Piece.the-variants as P
+use Rattle.forms.specs.Forms.{Parsed, took, nothing, thenRead, digits, padded, run, filled, keep, trimmed, point, pointed, fractionText}
+use Rattle.forms.specs.Pieces.{Reads, Trims, filledPiece}
+use Rattle.forms.specs.declared.Trimmed.{Trimmed}
 use Rattle.forms.proofs.Digits.{some, not-there}
-use Rattle.forms.proofs.Padded.{padded-length, digit-is, digits-back, digits-only}
+use Rattle.forms.proofs.Padded.{padded-length, digit-is, digits-back, took-inj, digits-only}
 
 -- ---- the digits that stand there
 
@@ -114,7 +113,8 @@ module _ (s : List ℕ) (at i v : ℕ) (so-far : digits i (drop at s) ≡ took v
   from-here =
       rw (digits-only i (drop at s) v (drop (at + i) s) so-far .0, run-padded i v (drop (at + i) s)) (joined (run (drop (at + i) s)))
     where
-      joined : (p : Parsed (List ℕ)) → thenRead (thenRead p (λ ds after. took (padded i v ++ ds) after)) filled ≡ thenRead p (λ ds after. filled (padded i v ++ ds) after)
+      joined : (p : Parsed (List ℕ)) → thenRead (thenRead p (λ ds after. took (padded i v ++ ds) after)) filled ≡
+          thenRead p (λ ds after. filled (padded i v ++ ds) after)
       joined nothing = refl
       joined (took ds after) = refl
 
@@ -153,6 +153,13 @@ unfolding trimmed
 trimmed-other [] b other = rw (ne-eqb b digitZero other)
 trimmed-other (c ∷ rest) b other = ap (keep c) (trimmed-other rest b other) ∙ keep-some c rest b
 
+-- a digit fewer, and a tenth of the value
+pub tenth : (n v : ℕ) → 0 < n → v < 10 ^ n → v / 10 < 10 ^ (n - 1)
+tenth zero v some h = let z : ⊥ = omega arith in absurd z
+tenth (suc n) v some h =
+    let e : suc n - 1 ≡ n = omega arith in
+    rw e (omega (arith, pow-suc 10 n))
+
 pub trim-more : (n v : ℕ) → 0 < n → v % 10 ≡ 0 → trimmed (padded (n - 1) (v / 10)) ≡ trimmed (padded n v)
 unfolding padded
 trim-more zero v some e = let z : ⊥ = omega arith in absurd z
@@ -178,6 +185,21 @@ pointed-none n v e = rw e
 pointed-list : (l : List ℕ) → 0 < length l → pointed l ≡ point ∷ l
 pointed-list [] some = let z : ⊥ = omega arith in absurd z
 pointed-list (d ∷ ds) some = refl
+
+-- and no other count and value meet that
+pub trims-once : (n : ℕ) (t u : Trimmed) → Trims n t → Trims n u → t ≡ u
+trims-once n t u h k =
+    let same : padded (t .count) (t .value) ≡ padded (u .count) (u .value) = h .digits-are ∙ sym (k .digits-are) in
+    let counts : t .count ≡ u .count = sym (padded-length (t .count) (t .value)) ∙ ap length same ∙ padded-length (u .count) (u .value) in
+    let read : (v : Trimmed) → Trims n v → digits (v .count) (padded (v .count) (v .value) ++ []) ≡ took (v .value) [] =
+    λ v w. digits-back (v .count) (v .value) [] (w .small) in
+    let values : t .value ≡ u .value = took-inj (t .value) (u .value) [] [] (sym (read t h) ∙ rw (same, counts) (read u k)) .0 in
+    ap₂ (λ (c v : ℕ). record { count = c; value = v }) counts values
+
+-- the digits of a fraction are written so
+pub trims-written : (n : ℕ) (t : Trimmed) → Trims n t → pointed (padded (t .count) (t .value)) ≡ fractionText n
+unfolding fractionText
+trims-written n t h = ap pointed (h .digits-are)
 
 pub pointed-some : (n v : ℕ) → 0 < n → pointed (padded n v) ≡ point ∷ padded n v
 pointed-some n v some = pointed-list (padded n v) (rw (padded-length n v) some)

@@ -2,7 +2,7 @@
 use Prim.Native.Nat.{ℕ, zero, suc, _+_, _-_, _*_, _/_, _%_, _^_, _≤_, _<_}
 use native.Mathlib.Omega.{arith}
 use native.Mathlib.Nat.{pow-suc}
-use mathlib.Core.Path.{_≡_, refl, sym, ap, _∙_}
+use mathlib.Core.Path.{_≡_, refl, ap, _∙_}
 use mathlib.Core.Bool.{Bool, true, false}
 use mathlib.Core.List.{List, [], _∷_, _++_, append-assoc}
 use borrow.Author.Tests.{le-leb, leb-true}
@@ -10,7 +10,6 @@ use lib.Dec.{leb}
 use lib.ListN.{length, set, length-append}
 use Rattle.whole.proofs.Tests.{both}
 use Rattle.lines.specs.Text.{digitZero, isDigit}
-use Rattle.writing.specs.Wrote.{Wrote}
 use Rattle.writing.proofs.Writing.{placed, placed-none, put-last}
 use Rattle.forms.specs.Forms.{Parsed, took, nothing, digit, digits, padded}
 

@@ -37,7 +37,7 @@ unfoldable pub digits : ℕ → List ℕ → Parsed ℕ
 digits zero text = took 0 text
 digits (suc n) text = thenRead (digits n text) (λ v rest. thenRead (digit rest) (λ d after. took (10 * v + d) after))
 
--- the digits of a number, n of them: zeros stand before the others
+-- the last n digits of a number, with zeros before them where it has fewer
 unfoldable pub padded : ℕ → ℕ → List ℕ
 padded zero v = []
 padded (suc n) v = padded n (v / 10) ++ ((digitZero + v % 10) ∷ [])
@@ -52,6 +52,7 @@ unfoldable pub run : List ℕ → Parsed (List ℕ)
 run [] = took [] []
 run (b ∷ rest) = cond (isDigit b) (thenRead (run rest) (λ ds after. took (b ∷ ds) after)) (took [] (b ∷ rest))
 
+-- one to nine digits as billionths, before what follows them
 unfoldable pub filled : List ℕ → List ℕ → Parsed ℕ
 filled ds after =
     cond (leb 1 (length ds) && leb (length ds) 9)
@@ -60,19 +61,21 @@ filled ds after =
 unfoldable pub fraction : List ℕ → Parsed ℕ
 fraction text = thenRead (marked point run text) filled
 
--- a text without the zeros at its end
+-- a byte before a text whose zeros at the end are gone: a zero before nothing goes too
 abbrev pub keep : ℕ → List ℕ → List ℕ
 keep b [] = cond (eqb b digitZero) [] (b ∷ [])
 keep b (c ∷ rest) = b ∷ c ∷ rest
 
+-- a text without the zeros at its end
 unfoldable pub trimmed : List ℕ → List ℕ
 trimmed [] = []
 trimmed (b ∷ rest) = keep b (trimmed rest)
 
--- the shortest text of so many billionths: none for 0
+-- a point before digits, where there are any
 abbrev pub pointed : List ℕ → List ℕ
 pointed [] = []
 pointed (d ∷ ds) = point ∷ d ∷ ds
 
+-- the shortest text of so many billionths: none for 0
 unfoldable pub fractionText : ℕ → List ℕ
 fractionText n = pointed (trimmed (padded 9 n))

@@ -5,7 +5,8 @@ use mathlib.Core.Bool.{cond}
 use mathlib.Core.List.{List}
 use lib.Dec.{eqb}
 use lib.ListN.{length, drop}
-use Rattle.forms.specs.Forms.{Parsed, took, nothing}
+use Rattle.forms.specs.Forms.{Parsed, took, nothing, padded, trimmed}
+use Rattle.forms.specs.declared.Trimmed.{Trimmed}
 use Rattle.forms.specs.declared.Piece.{Piece}
 use Rattle.forms.specs.declared.Piece.the-variants as P
 
@@ -31,3 +32,9 @@ pub record Reads (text : List ℕ) (piece : Parsed ℕ) (bound : ℕ) (r : Piece
   pub reads : ofPiece text r ≡ piece
   pub small : valueIn r < bound
   pub inside : endIn r ≤ length text
+
+-- the nine digits of so many billionths without the zeros at their end, as their number and their value
+pub record Trims (billionths : ℕ) (t : Trimmed) : Type 0 where
+  pub few : t .count ≤ 9
+  pub small : t .value < 10 ^ t .count
+  pub digits-are : padded (t .count) (t .value) ≡ trimmed (padded 9 billionths)

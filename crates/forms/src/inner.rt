@@ -4,14 +4,14 @@ use crate::Piece;
 use crate::Trimmed;
 use writing::inner::put_byte;
 ghost use mathlib.Core.Path.{_≡_};
-ghost use mathlib.Core.List.{[], _∷_};
+ghost use mathlib.Core.List.{_∷_};
 ghost use Prim.Native.Nat.{_+_, _^_, _≤_, _<_};
 ghost use lib.ListN.{length, drop};
 ghost use Rattle.writing.specs.Wrote.{Wrote};
-ghost use Rattle.forms.specs.Forms.{thenRead, marked, digits, padded, run, filled, fraction, trimmed, pointed};
-ghost use Rattle.forms.specs.Pieces.{Reads, filledPiece};
+ghost use Rattle.forms.specs.Forms.{thenRead, marked, digits, padded, run, filled, fraction, pointed};
+ghost use Rattle.forms.specs.Pieces.{Reads, Trims, filledPiece};
 
-// What a fraction of so many digits is counted in: billionths, that is 10 to the power of the digits that are not there.
+// How many billionths the last of n digits of a fraction counts: 10 to the power of the digits that are missing from nine.
 const PLACES: [u64; 10] = [
     1_000_000_000,
     100_000_000,
@@ -25,7 +25,7 @@ const PLACES: [u64; 10] = [
     1,
 ];
 
-// n digits, as the number that they say.
+// n digits, as the number that they say. 64 bits hold any number of 18.
 pub fn read_digits(text: &[u8], at: usize, n: usize) -> Piece
     requires { ⌜ (at ≤ length (now text)) × (n ≤ 18) ⌝ }
     ensures { λ r. ⌜ Reads (now (text .entry)) (digits n (drop at (now (text .entry)))) (10 ^ n) r ⌝ }
@@ -132,7 +132,8 @@ pub fn put_marked(out: &mut [u8], at: usize, mark: u8, n: usize, number: u64) ->
 
 // The nine digits of so many billionths, without the zeros at their end.
 pub fn trim(billionths: u64) -> Trimmed
-    ensures { λ r. ⌜ (r .count ≤ 9) × (padded (r .count) (r .value) ≡ trimmed (padded 9 billionths)) ⌝ }
+    requires { ⌜ billionths < 10 ^ 9 ⌝ }
+    ensures { λ r. ⌜ Trims billionths r ⌝ }
 {
     let mut value = billionths;
     let mut count = 9;

@@ -135,10 +135,7 @@ fn bounds_of(letter: u8) -> Bounds
         },
         b'f' => Bounds { below: 0, high: 1 },
         b'm' => Bounds { below: 0, high: 8 },
-        b'r' => Bounds {
-            below: 0,
-            high: 64,
-        },
+        b'r' => Bounds { below: 0, high: 64 },
         _ => Bounds { below: 0, high: 9 },
     }
 }

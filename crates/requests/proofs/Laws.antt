@@ -20,7 +20,7 @@ use Rattle.parameters.specs.declared.Numbers.{Numbers}
 use Rattle.replies.specs.Replies.{replyText, Replied}
 use Rattle.calls.specs.Table.{Row, calls, TextRow, textCalls, bytes, noRow, placeIn}
 use Rattle.calls.specs.Ready.{Ready}
-use Rattle.requests.specs.Requests.{question, replyWith, replyOnText, replyByText, replyBy, replyTo, lineRoom}
+use Rattle.requests.specs.Requests.{question, replyWith, replyByText, replyBy, replyTo, lineRoom}
 use Rattle.requests.specs.Layout.{nameRoom, rowRoom, column, kindsIn, namesOf, takenBy, Spells}
 
 -- ---- the name and the letters at a place of the table

@@ -4,7 +4,7 @@ use native.Mathlib.Omega.{arith}
 use mathlib.Core.Path.{_≡_, refl, sym, ap, _∙_}
 use mathlib.Core.List.{List, [], _∷_, _++_, append-assoc}
 use borrow.Rule.Slice.PartMut.{midOf, putMid, put-same, same-len-mid}
-use lib.ListN.{length, take, drop, length-append, length-drop, length-take, take-append-drop}
+use lib.ListN.{length, take, drop, length-append, length-drop, take-append-drop}
 use lib.Seq.{drop-append-le, drop-drop, length-take-le}
 use Rattle.refusal.specs.Answer.{Answer, given, refused}
 use Rattle.refusal.proofs.Answers.{given-inj, never}
@@ -31,7 +31,8 @@ module _ (out : List ℕ) (start room : ℕ) (inside : start + room ≤ length o
       sym (drop-append-le (length text) part (drop room (drop start out)) (rw part-long fits)) ∙
       ap (drop (length text)) (take-append-drop room (drop start out)) ∙ drop-drop (length text) start out in
       let whole : putMid start room out (text ++ drop (length text) part) ≡ placed out start text =
-      ap (λ (l : List ℕ). take start out ++ l) (append-assoc text (drop (length text) part) (drop room (drop start out)) ∙ ap (λ (l : List ℕ). text ++ l) behind-it) in
+      ap (λ (l : List ℕ). take start out ++ l) (append-assoc text (drop (length text) part) (drop room (drop start out)) ∙
+      ap (λ (l : List ℕ). text ++ l) behind-it) in
       placed-wrote out _ start text (start + length text) (omega arith) whole refl
 
 -- a text that was written is no longer than what was lent
@@ -86,7 +87,8 @@ module _ (out part′ : List ℕ) (at room : ℕ) (inside : at + 255 ≤ length 
     -- the reply is what it answers
     text-replied-all : (writes : ℕ → Answer (List ℕ)) (r : LengthResult) →
         (ofLength r ≡ lengthOf (writes (length lent))) × (part′ ≡ afterwards lent (writes (length lent))) →
-        Wrote (putMid (at + 2) room out part′) at (headOf r) out′ (at + length (headOf r)) × ((end ≡ at + length (headOf r) + behind r) × (length (headOf r) ≤ 20)) →
+        Wrote (putMid (at + 2) room out part′) at (headOf r) out′ (at + length (headOf r)) ×
+        ((end ≡ at + length (headOf r) + behind r) × (length (headOf r) ≤ 20)) →
         Replied out at (shownText (writes room)) out′ end
     text-replied-all writes r wrote head =
         rw (← lent-long) (headed (writes (length lent)) r (wrote .0) (wrote .1) (head .0) (head .1 .0) (head .1 .1))

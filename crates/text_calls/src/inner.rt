@@ -20,6 +20,9 @@ ghost use Rattle.calls.specs.Table.{takesOf, answersOf, textAnswersOf};
 ghost use Rattle.calls.specs.Ready.{Ready};
 ghost use Rattle.text_calls.specs.Heads.{headOf, behind};
 
+// The bytes before a text that was written: a 0 and a space.
+const HEAD: usize = 2;
+
 pub fn read_date(text: &[u8], out: &mut [u8], at: usize) -> usize
     requires { ⌜ at + 255 ≤ length (now out) ⌝ }
     ensures { λ r. ⌜ Replied (now (out .entry)) at (textAnswersOf "read_date" (now (text .entry))) (now (out .exit)) r ⌝ }
@@ -51,7 +54,7 @@ pub fn write_date(n: Numbers, out: &mut [u8], at: usize) -> usize
     ensures { λ r. ⌜ Replied (now (out .entry)) at (answersOf "write_date" (numbersIn n)) (now (out .exit)) r ⌝ }
 {
     let date = date(n, 0);
-    let start = at + 2;
+    let start = at + HEAD;
     let end = start + room(n, 3);
     let answer = date_text::write_date(date, &mut out[start..end]);
     put_head(out, at, answer)
@@ -62,7 +65,7 @@ pub fn write_time(n: Numbers, out: &mut [u8], at: usize) -> usize
     ensures { λ r. ⌜ Replied (now (out .entry)) at (answersOf "write_time" (numbersIn n)) (now (out .exit)) r ⌝ }
 {
     let time = time(n, 0);
-    let start = at + 2;
+    let start = at + HEAD;
     let end = start + room(n, 6);
     let answer = date_text::write_time(time, &mut out[start..end]);
     put_head(out, at, answer)
@@ -73,7 +76,7 @@ pub fn write_datetime(n: Numbers, out: &mut [u8], at: usize) -> usize
     ensures { λ r. ⌜ Replied (now (out .entry)) at (answersOf "write_datetime" (numbersIn n)) (now (out .exit)) r ⌝ }
 {
     let stamp = date_time(n, 0);
-    let start = at + 2;
+    let start = at + HEAD;
     let end = start + room(n, 9);
     let answer = date_text::write_datetime(stamp, &mut out[start..end]);
     put_head(out, at, answer)

@@ -2,11 +2,11 @@
 use borrow.Author.Needs.{needs}
 use Prim.Native.Nat.{ℕ, _+_, _≤_, _<_}
 use native.Mathlib.Omega.{arith}
-use mathlib.Core.Path.{_≡_, sym, _∙_}
+use mathlib.Core.Path.{_≡_, sym}
 use mathlib.Core.List.{List}
 use lib.ListN.{length, drop}
-use Rattle.refusal.specs.Answer.{given, refused}
-use Rattle.forms.specs.Forms.{took, nothing, marked}
+use Rattle.refusal.specs.Answer.{given}
+use Rattle.forms.specs.Forms.{took, marked}
 use Rattle.forms.proofs.Digits.{mark-over, no-mark, the-mark}
 use Rattle.date_forms.specs.Grammar.{dateForm, timeForm}
 use Rattle.date_forms.proofs.Years.{date-there, date-missing, time-there, time-missing}
@@ -93,5 +93,5 @@ pub read-datetime-spec : {M : Type 1} → statement M
 read-datetime-spec =
     tie.close
     (tie.spec (λ c κs. search needs) (λ c. search needs) (λ c. search needs) returns returns-2 (λ c. inside (c .before)) returns-3
-    (λ c. omega (arith, inside (c .before .before))) (λ c κs. omega (arith, inside (c .before .before))) (λ c. search needs) (λ c. search needs) returns-4 returns-5
-    (λ c κs. search needs) (λ c. search needs) returns-6 (λ c. search needs) returns-7)
+    (λ c. omega (arith, inside (c .before .before))) (λ c κs. omega (arith, inside (c .before .before))) (λ c. search needs) (λ c. search needs)
+    returns-4 returns-5 (λ c κs. search needs) (λ c. search needs) returns-6 (λ c. search needs) returns-7)

@@ -2,12 +2,10 @@
 use borrow.Author.Needs.{needs}
 use Prim.Native.Nat.{ℕ}
 use mathlib.Core.Path.{_≡_, sym, _∙_}
-use mathlib.Core.Bool.{true, false}
 use mathlib.Core.List.{List}
 use borrow.Author.Tests.{not-true, not-false}
 use lib.ListN.{drop}
 use Rattle.refusal.specs.Answer.{given}
-use Rattle.iso_time.specs.Proposal.{isValidTime}
 use Rattle.forms.specs.Forms.{took}
 use Rattle.date_forms.specs.Grammar.{timeForm}
 use Rattle.date_forms.proofs.Years.{time-there, time-missing}

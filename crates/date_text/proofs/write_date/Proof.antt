@@ -2,8 +2,7 @@
 use borrow.Author.Needs.{needs}
 use Prim.Native.Nat.{ℕ, _<_, _≤_}
 use native.Mathlib.Omega.{arith}
-use mathlib.Core.Path.{_≡_, sym, _∙_}
-use mathlib.Core.List.{List}
+use mathlib.Core.Path.{_≡_, sym}
 use lib.ListN.{length}
 use Rattle.refusal.specs.Answer.{given, refused}
 use Rattle.iso_date.specs.Paper.{dateLimits}
@@ -17,7 +16,8 @@ use Rattle.date_text.proofs.write_date.Tie as tie
 within : (c : tie.After-enum-told) → dateLimits (c .before .before .before .before .args .date) ≡ given tt
 within c = rw (c .enum-told .given .1) at (sym (c .before .before .check-within-limits .ensures))
 
-refused-by : (c : tie.After-known-told) (room : ℕ) → writeDate (c .before .before .before .before .before .args .date) room ≡ refused (c .before .n .given .0 .0)
+refused-by : (c : tie.After-known-told) (room : ℕ) →
+    writeDate (c .before .before .before .before .before .args .date) room ≡ refused (c .before .n .given .0 .0)
 unfolding writeDate
 refused-by c room = rw (sym (c .before .before .before .check-within-limits .ensures), c .before .n .given .1)
 

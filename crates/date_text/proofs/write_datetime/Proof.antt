@@ -2,15 +2,15 @@
 use borrow.Author.Needs.{needs}
 use Prim.Native.Nat.{ℕ, _+_, _<_, _≤_}
 use native.Mathlib.Omega.{arith}
-use mathlib.Core.Path.{_≡_, sym, ap, _∙_}
-use mathlib.Core.List.{List, _∷_}
-use lib.ListN.{length, length-append}
+use mathlib.Core.Path.{_≡_, sym, ap}
+use lib.ListN.{length}
 use Rattle.refusal.specs.Answer.{given, refused}
 use Rattle.iso_date_time.specs.Paper.{dateTimeLimits}
+use Rattle.iso_date_time.proofs.Moments.{limits-fine}
 use Rattle.writing.proofs.Writing.{after}
-use Rattle.date_forms.specs.Texts.{dateText, timeText}
+use Rattle.forms.proofs.Fractions.{trims-written}
 use Rattle.date_forms.proofs.Texts.{time-length-is}
-use Rattle.date_text.specs.Paper.{writeDateTime, dateTimeText, capitalT}
+use Rattle.date_text.specs.Paper.{writeDateTime, dateTimeText}
 use Rattle.date_text.proofs.Answers.{too-short, has-room, refuses, writes, stamp-length}
 use Rattle.date_text.proofs.write_datetime.Statement.{statement}
 use Rattle.date_text.proofs.write_datetime.Tie as tie
@@ -44,7 +44,7 @@ module _ (c : tie.After-time-length) where
         stamp-length (at-start .args .stamp),
         c .before .date-length .ensures .0,
         c .time-length .ensures .0,
-        ap length (c .before .before .fraction-of .ensures .written),
+        ap length (trims-written _ _ (c .before .before .fraction-of .ensures)),
         time-length-is (at-start .args .stamp .time),
       )
 
@@ -88,5 +88,6 @@ returns-3 c =
 pub write-datetime-spec : {M : Type 1} → statement M
 write-datetime-spec =
     tie.close
-    (tie.spec (λ c κs. search needs) (λ c. search needs) returns (λ c. search needs) (λ c κs. search needs) (λ c κs. search needs) (λ c. search needs)
-    (λ c κs. search needs) (λ c. search needs) returns-2 (λ c κs. search needs) (λ c κs. search needs) put-time-requires (λ c. search needs) returns-3)
+    (tie.spec (λ c κs. search needs) (λ c. search needs) returns (λ c. search needs) (λ c κs. limits-fine _ (sym (within (c .before .before))) .time-valid)
+    (λ c κs. search needs) (λ c. search needs) (λ c κs. c .before .fraction-of .ensures .few) (λ c. search needs) returns-2
+    (λ c κs. search needs) (λ c κs. search needs) put-time-requires (λ c. search needs) returns-3)

@@ -4,11 +4,11 @@ use Prim.Native.Nat.{ℕ, _+_, _<_, _≤_}
 use native.Mathlib.Omega.{arith}
 use mathlib.Core.Path.{_≡_, sym, ap, _∙_}
 use mathlib.Core.Bool.{true}
-use mathlib.Core.List.{List}
 use borrow.Author.Tests.{not-true, not-false}
 use lib.ListN.{length}
 use Rattle.refusal.specs.Answer.{given, refused}
 use Rattle.iso_time.specs.Proposal.{isValidTime}
+use Rattle.forms.proofs.Fractions.{trims-written}
 use Rattle.date_forms.specs.Texts.{timeText}
 use Rattle.date_forms.proofs.Texts.{time-length-is}
 use Rattle.date_text.specs.Paper.{writeTime}
@@ -35,7 +35,7 @@ module _ (c : tie.After-time-length) where
 
   long : c .time-length .result ≡ length (timeText (at-start .args .time))
   long =
-      c .time-length .ensures .0 ∙ ap (λ (k : ℕ). 8 + k) (ap length (c .before .fraction-of .ensures .written)) ∙
+      c .time-length .ensures .0 ∙ ap (λ (k : ℕ). 8 + k) (ap length (trims-written _ _ (c .before .fraction-of .ensures))) ∙
       sym (time-length-is (at-start .args .time))
 
   no-room : room < length (timeText (at-start .args .time)) → writeTime (at-start .args .time) room ≡ refused 10
@@ -63,5 +63,5 @@ returns-3 c =
 pub write-time-spec : {M : Type 1} → statement M
 write-time-spec =
     tie.close
-    (tie.spec (λ c κs. search needs) returns (λ c κs. search needs) (λ c κs. c .fraction-of .ensures .few) returns-2 put-time-requires (λ c. search needs)
+    (tie.spec (λ c κs. search needs) returns (λ c κs. valid c) (λ c κs. c .fraction-of .ensures .few) returns-2 put-time-requires (λ c. search needs)
     returns-3)

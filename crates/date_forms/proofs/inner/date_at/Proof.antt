@@ -2,13 +2,12 @@
 use borrow.Author.Needs.{needs}
 use Prim.Native.Nat.{ℕ, _≤_, _<_}
 use native.Mathlib.Omega.{arith}
-use mathlib.Core.Path.{_≡_, sym}
+use mathlib.Core.Path.{_≡_}
 use mathlib.Core.List.{List}
-use mir.Facts.{toZ-ofZ}
 use mir.Syntax.{w32}
 use mir.Val.{toZ, ofZ}
 use lib.ListN.{length, drop}
-use Rattle.forms.specs.Forms.{took, nothing, marked, digits}
+use Rattle.forms.specs.Forms.{took, marked, digits}
 use Rattle.forms.proofs.Digits.{is-there, is-missing}
 use Rattle.date_forms.specs.Grammar.{hyphen, yearForm, dateForm}
 use Rattle.date_forms.proofs.Years.{year-there, year-missing}
@@ -28,7 +27,8 @@ abbrev day-place : tie.After-known-told3 → tie.After-known-told2
 day-place c = c .before .before .before .before
 
 year-took : (c : tie.After-known-told) →
-    (yearForm (drop (year-place c .before .before .args .at) (text (year-place c))) ≡ took (c .before .year .given .0 .0) (drop (c .before .year .given .0 .1 .0) (text (year-place c)))) ×
+    (yearForm (drop (year-place c .before .before .args .at) (text (year-place c))) ≡
+    took (c .before .year .given .0 .0) (drop (c .before .year .given .0 .1 .0) (text (year-place c)))) ×
     (c .before .year .given .0 .1 .0 ≤ length (text (year-place c)))
 year-took c = year-there (year-place c .year-at .ensures) (c .before .year .given .1)
 

@@ -1,10 +1,11 @@
 -- Hours, minutes, seconds and the fraction, one after the other.
 use borrow.Author.Needs.{needs}
 use native.Mathlib.Omega.{arith}
-use mathlib.Core.Path.{_≡_, ap}
+use mathlib.Core.Path.{ap}
 use lib.ListN.{length}
 use Rattle.writing.proofs.Writing.{after, wrote-as}
 use Rattle.forms.proofs.Padded.{padded-length}
+use Rattle.forms.proofs.Fractions.{trims-written}
 use Rattle.date_forms.specs.Texts.{timeText}
 use Rattle.date_forms.proofs.Texts.{time-length-is}
 use Rattle.date_forms.proofs.inner.put_time.Statement.{statement}
@@ -48,7 +49,7 @@ put-fraction-requires c κs =
       arith,
       time-length-is (s .args .time),
       s .pre .1,
-      ap length (s .pre .0 .written),
+      ap length (trims-written _ _ (s .pre .0)),
       h .put-padded .ensures .ends,
       h .put-padded .ensures .sized,
       padded-length 2 (s .args .time .hour),
@@ -68,7 +69,8 @@ returns c =
     let m = z .before .before .before .before .before in
     let h = m .before .before .before .before .before in
     let s = h .before .before .before .before in
-    after (h .put-padded .ensures) (after (m .put-marked .ensures) (after (z .put-marked2 .ensures) (wrote-as (f .put-fraction .ensures) (s .pre .0 .written))))
+    after (h .put-padded .ensures) (after (m .put-marked .ensures) (after (z .put-marked2 .ensures)
+    (wrote-as (f .put-fraction .ensures) (trims-written _ _ (s .pre .0)))))
 
 pub put-time-spec : {M : Type 1} → statement M
 put-time-spec =

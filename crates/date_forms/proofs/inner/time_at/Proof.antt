@@ -2,10 +2,10 @@
 use borrow.Author.Needs.{needs}
 use Prim.Native.Nat.{ℕ, _≤_, _<_, _^_}
 use native.Mathlib.Omega.{arith}
-use mathlib.Core.Path.{_≡_, sym}
+use mathlib.Core.Path.{_≡_}
 use mathlib.Core.List.{List}
 use lib.ListN.{length, drop}
-use Rattle.forms.specs.Forms.{took, nothing, marked, digits, fraction}
+use Rattle.forms.specs.Forms.{took, marked, digits, fraction}
 use Rattle.forms.proofs.Digits.{is-there, is-missing}
 use Rattle.date_forms.specs.Grammar.{colon, timeForm, secondsForm}
 use Rattle.date_forms.proofs.inner.time_at.Statement.{statement}

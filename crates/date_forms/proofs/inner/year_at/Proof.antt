@@ -1,7 +1,6 @@
 -- By its first byte: `+`, `-`, or any other.
 use borrow.Author.Needs.{needs}
 use native.Mathlib.Omega.{arith}
-use mathlib.Core.Path.{_≡_, _∙_}
 use Rattle.date_forms.proofs.Years.{year-over, year-plus, year-minus, year-plain, above-ends, below-ends}
 use Rattle.date_forms.proofs.inner.year_at.Statement.{statement}
 use Rattle.date_forms.proofs.inner.year_at.Tie as tie

@@ -3,7 +3,7 @@ use borrow.Author.Needs.{needs}
 use Prim.Native.Nat.{ℕ, _+_, _-_, _^_, _≤_, _<_}
 use native.Mathlib.Nat.{add-zero}
 use native.Mathlib.Omega.{arith}
-use mathlib.Core.Path.{_≡_, sym, ap}
+use mathlib.Core.Path.{_≡_}
 use lib.ListN.{length, drop, getD}
 use Rattle.forms.specs.Forms.{took, digits}
 use Rattle.forms.proofs.Digits.{not-digit, a-digit, next-digit, grows, fits, not-there}
@@ -40,7 +40,8 @@ returns-2 c =
     let t = c .before .before .before in
     let l = t .before .loop in
     let a = t .before .before .before .args in
-    not-there _ _ 9 (too-many (a .text .now) (a .at) (l .i) (l .value) (l .inv .1 .1) (c .if2 .taken) (t .loop-test .taken) (a-digit (byte t) (c .before .if1 .left) .0))
+    not-there _ _ 9 (too-many (a .text .now) (a .at) (l .i) (l .value) (l .inv .1 .1) (c .if2 .taken) (t .loop-test .taken)
+    (a-digit (byte t) (c .before .if1 .left) .0))
 
 -- the byte is a digit, and the value so far is small
 small : (c : tie.Else2 Inv-loop μ-loop) → (c .before .before .before .before .loop .value < 10 ^ 18) ×

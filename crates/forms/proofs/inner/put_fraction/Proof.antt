@@ -1,7 +1,7 @@
 -- A point before the digits, where there are any.
 use borrow.Author.Needs.{needs}
 use native.Mathlib.Omega.{arith}
-use mathlib.Core.Path.{_≡_, sym, ap}
+use mathlib.Core.Path.{sym, ap}
 use lib.ListN.{length}
 use Rattle.writing.proofs.Writing.{nothing, wrote-as}
 use Rattle.forms.proofs.Padded.{padded-length}

@@ -1,6 +1,5 @@
 -- A byte, and the digits after it.
 use borrow.Author.Needs.{needs}
-use native.Mathlib.Omega.{arith}
 use Rattle.writing.proofs.Writing.{after}
 use Rattle.forms.proofs.inner.put_marked.Statement.{statement}
 use Rattle.forms.proofs.inner.put_marked.Tie as tie

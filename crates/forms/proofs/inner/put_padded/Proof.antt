@@ -1,5 +1,4 @@
 -- The buffer with the digits that are left to write in their place is, at each turn, the buffer with all of them.
-use borrow.Author.Needs.{needs}
 use Prim.Native.Nat.{ℕ, _+_, _≤_}
 use native.Mathlib.Omega.{arith}
 use mathlib.Core.Path.{_≡_, refl, sym, ap, _∙_}

@@ -3,9 +3,9 @@ use borrow.Author.Needs.{needs}
 use Prim.Native.Nat.{ℕ, _+_, _-_, _^_, _≤_, _<_}
 use native.Mathlib.Nat.{add-zero}
 use native.Mathlib.Omega.{arith}
-use mathlib.Core.Path.{_≡_, sym, ap}
+use mathlib.Core.Path.{_≡_, sym}
 use lib.ListN.{length, drop, getD}
-use Rattle.forms.specs.Forms.{Parsed, took, digits}
+use Rattle.forms.specs.Forms.{took, digits}
 use Rattle.forms.proofs.Digits.{not-digit, a-digit, text-over, no-digit, next-digit, grows, fits, not-there}
 use Rattle.forms.proofs.inner.read_digits.Statement.{statement}
 use Rattle.forms.proofs.inner.read_digits.Tie as tie
@@ -39,7 +39,8 @@ returns-2 c =
     not-there _ _ (a .n) (no-digit (a .text .now) (a .at) _ _ (l .loop .inv .1 .1) _ (omega arith) (omega arith) (not-digit (byte t) (c .if2 .taken)))
 
 -- the byte is a digit, and the value so far is small
-small : (c : tie.Else2 Inv-loop μ-loop) → (c .before .before .before .before .loop .value < 10 ^ 18) × ((48 ≤ byte (c .before .before .before)) × (byte (c .before .before .before) ≤ 57))
+small : (c : tie.Else2 Inv-loop μ-loop) → (c .before .before .before .before .loop .value < 10 ^ 18) ×
+    ((48 ≤ byte (c .before .before .before)) × (byte (c .before .before .before) ≤ 57))
 small c =
     let l = c .before .before .before .before in
     (fits (l .loop .i) (l .loop .value) (l .loop .inv .1 .0) (omega arith), a-digit (byte (c .before .before .before)) (c .if2 .left) .1)

@@ -1,8 +1,7 @@
 -- The point, and the digits after it.
 use borrow.Author.Needs.{needs}
 use native.Mathlib.Omega.{arith}
-use mathlib.Core.Path.{_≡_, sym, ap, _∙_}
-use Rattle.forms.specs.Forms.{run, fraction, thenRead, filled, point}
+use Rattle.forms.specs.Forms.{run, fraction, point}
 use Rattle.forms.proofs.Digits.{mark-over, no-mark, the-mark, not-there, reads-as}
 use Rattle.forms.proofs.inner.read_fraction.Statement.{statement}
 use Rattle.forms.proofs.inner.read_fraction.Tie as tie

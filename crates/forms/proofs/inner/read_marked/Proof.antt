@@ -1,7 +1,7 @@
 -- The byte, and what is read after it.
 use borrow.Author.Needs.{needs}
 use native.Mathlib.Omega.{arith}
-use mathlib.Core.Path.{sym, _∙_}
+use mathlib.Core.Path.{sym}
 use Rattle.forms.specs.Forms.{digits}
 use Rattle.forms.proofs.Digits.{mark-over, no-mark, the-mark, not-there, reads-as}
 use Rattle.forms.proofs.inner.read_marked.Statement.{statement}

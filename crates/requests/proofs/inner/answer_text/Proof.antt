@@ -3,16 +3,14 @@ use borrow.Author.Needs.{needs}
 use Prim.Native.Nat.{ℕ, _+_, _-_, _≤_, _<_}
 use native.Mathlib.Omega.{arith}
 use mathlib.Core.Path.{_≡_, sym, ap, _∙_}
-use mathlib.Core.Bool.{true, false}
 use mathlib.Core.List.{List}
 use lib.ListN.{length, take, drop, length-drop}
 use lib.Seq.{length-take-le, take-all}
 use Rattle.whole.proofs.Tests.{clash}
-use Rattle.lines.specs.Text.{word}
 use Rattle.lines.proofs.Words.{word-inside}
 use Rattle.writing.proofs.Writing.{wrote-as}
 use Rattle.replies.specs.Replies.{replyText}
-use Rattle.calls.specs.Table.{textAnswersOf, textCalls, bytes}
+use Rattle.calls.specs.Table.{textAnswersOf, textCalls}
 use Rattle.requests.specs.Requests.{replyByText}
 use Rattle.requests.proofs.Laws.{no-text, no-text-call, text-here, text-later}
 use Rattle.requests.proofs.inner.answer_text.Statement.{statement}
@@ -96,9 +94,11 @@ returns-3 c =
     let t = d .before .before .before in
     let f = first (second (t .before)) in
     let s = start-of f in
-    let named = text-here (line s) (s .args .end) (s .pre .0) (inside f) _ _ (t .before .same2 .ensures .0 (t .if3 .taken)) in
-    (wrote-as (d .read-time .ensures .wrote)
-    (ap (λ (l : List ℕ). replyText (textAnswersOf "read_time" l)) (text f) ∙ named ∙ not-first (t .before .before .before .before)), d .read-time .ensures .short)
+    let named = text-here (line s) (s .args .end) (s .pre .0) (inside f) _ _ (t .before .same2 .ensures .0 (t .if3 .taken)) in (
+      wrote-as (d .read-time .ensures .wrote)
+          (ap (λ (l : List ℕ). replyText (textAnswersOf "read_time" l)) (text f) ∙ named ∙ not-first (t .before .before .before .before)),
+      d .read-time .ensures .short,
+    )
 
 returns-4 : tie.Need-returns-4
 returns-4 c =
@@ -106,10 +106,11 @@ returns-4 c =
     let t = d .before .before .before in
     let f = first (second (third (t .before))) in
     let s = start-of f in
-    let named = text-here (line s) (s .args .end) (s .pre .0) (inside f) _ _ (t .before .same3 .ensures .0 (t .if4 .taken)) in
-    (wrote-as (d .read-datetime .ensures .wrote)
-    (ap (λ (l : List ℕ). replyText (textAnswersOf "read_datetime" l)) (text f) ∙ named ∙ not-second (t .before .before .before .before)),
-    d .read-datetime .ensures .short)
+    let named = text-here (line s) (s .args .end) (s .pre .0) (inside f) _ _ (t .before .same3 .ensures .0 (t .if4 .taken)) in (
+      wrote-as (d .read-datetime .ensures .wrote)
+          (ap (λ (l : List ℕ). replyText (textAnswersOf "read_datetime" l)) (text f) ∙ named ∙ not-second (t .before .before .before .before)),
+      d .read-datetime .ensures .short,
+    )
 
 returns-5 : tie.Need-returns-5
 returns-5 c =
@@ -120,7 +121,8 @@ pub answer-text-spec : {M : Type 1} → statement M
 answer-text-spec =
     tie.close
     (tie.spec (λ c κs. search needs) (λ c. search needs) returns (λ c. omega (arith, inside c)) (λ c. front (c .before)) (λ c. search needs)
-    (λ c κs. search needs) (λ c. after-name (first (c .before))) (λ c. after-name (first (c .before))) (λ c. search needs) (λ c κs. search needs) (λ c. search needs) returns-2
+    (λ c κs. search needs) (λ c. after-name (first (c .before))) (λ c. after-name (first (c .before))) (λ c. search needs) (λ c κs. search needs)
+    (λ c. search needs) returns-2
     (λ c. front (first (c .before .before))) (λ c. search needs) (λ c κs. search needs) (λ c. after-name (first (second (c .before))))
     (λ c. after-name (first (second (c .before))))
     (λ c. search needs) (λ c κs. search needs) (λ c. search needs) returns-3 (λ c. front (first (second (c .before .before)))) (λ c. search needs)

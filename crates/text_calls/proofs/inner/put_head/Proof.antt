@@ -12,6 +12,12 @@ use Rattle.text_calls.proofs.inner.put_head.Tie as tie
 few : (c : tie.After-known-told) → c .before .answer .given .0 .0 ≤ 64
 few c = rw (c .before .answer .given .1) at (c .before .before .before .before .pre .1)
 
+add-result : tie.Need-add-result
+add-result c =
+    let space = c .before .before in
+    let zero = space .before .before .before .before in
+    omega (arith, few (zero .before .before), space .put-byte2 .ensures .ends, zero .put-byte .ensures .ends)
+
 returns : tie.Need-returns
 returns c =
     let space = c .before .before in
@@ -25,11 +31,13 @@ unfolding decimal
 returns-2 c =
     let d = c .before .before in
     let told = d .before .before in
-    rw (told .before .answer2 .given .1) (ends-there (d .put-digits .ensures),
-    (omega (arith, d .put-digits .ensures .ends), few-digits 20 19 (told .before .answer2 .given .0 .0) (omega arith)))
+    rw (told .before .answer2 .given .1) (
+      ends-there (d .put-digits .ensures),
+      (omega (arith, d .put-digits .ensures .ends), few-digits 20 19 (told .before .answer2 .given .0 .0) (omega arith)),
+    )
 
 pub put-head-spec : {M : Type 1} → statement M
 put-head-spec =
     tie.close
-    (tie.spec (λ c. search needs) (λ c κs. search needs) (λ c κs. search needs) (λ c. omega (arith, few (c .before .before .before .before .before .before .before .before), c .before .before .put-byte2 .ensures .ends, c .before .before .before .before .before .before .put-byte .ensures .ends)) (λ c. search needs) (λ c. search needs)
+    (tie.spec (λ c. search needs) (λ c κs. search needs) (λ c κs. search needs) add-result (λ c. search needs) (λ c. search needs)
     (λ c κs. omega (arith, few-digits 20 19 (c .before .before .answer2 .given .0 .0) (omega arith))) (λ c. search needs) returns (λ c. search needs) returns-2)

@@ -1,5 +1,4 @@
 use borrow.Author.Needs.{needs}
-use mathlib.Core.Path.{_≡_}
 use Rattle.parameters.proofs.Laws.{holds-at}
 use Rattle.replies.proofs.Laws.{replied-as}
 use Rattle.date_text.specs.Paper.{writeDate}
@@ -12,8 +11,8 @@ put-head-requires c κs =
     let w = c .before .before .before in
     let r = w .before .before in
     let s = r .before .before .before in
-    head-asks _ _ _ _ (s .pre .room) (r .room .ensures .1) (w .write-date .kept .1 .0) (writeDate (r .before .date .result)) (w .write-date .result)
-    (w .write-date .ensures)
+    head-asks _ _ _ _ (s .pre .room) (r .room .ensures .1) (w .write-date .kept .1 .0) (writeDate (r .before .date .result))
+    (w .write-date .result) (w .write-date .ensures)
 
 returns : tie.Need-returns
 returns c =

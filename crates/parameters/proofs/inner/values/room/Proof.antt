@@ -1,5 +1,4 @@
 -- A natural that the type takes.
-use native.Mathlib.Omega.{arith}
 use mathlib.Core.Path.{refl}
 use mathlib.Core.List.{[]}
 use Rattle.parameters.specs.Kinds.{unsigned}
