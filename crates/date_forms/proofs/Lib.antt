@@ -2,3 +2,4 @@ pub mod Years
 pub mod Texts
 pub mod ReadBack
 pub mod Shortest
+pub mod OneKind

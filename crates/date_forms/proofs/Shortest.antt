@@ -1,4 +1,5 @@
--- The text that is written is the shortest of all that say the same, and the only one so short; and no text is longer than so much.
+-- Of the texts that say the same, of a time those that say its seconds, none is shorter than what is written, and none other is as short but
+-- the one with second 60 for 59; and no text is longer than so much.
 use Prim.Native.Nat.{ℕ, zero, suc, _+_, _≤_}
 use native.Mathlib.Omega.{arith}
 use mathlib.Core.Path.{_≡_, refl, sym, ap, _∙_}
@@ -20,7 +21,7 @@ use Rattle.date_forms.specs.Grammar.{plus, hyphen, colon, fourDigits, pl
 use Rattle.date_forms.specs.Grammar.{timeForm}
 use Rattle.date_forms.specs.Texts.{yearText, dateText, billionthsOf, timeText}
 use Rattle.date_forms.specs.Claims.{timeWithSeconds, leapText}
-use Rattle.date_forms.proofs.ReadBack.{year-four, year-plus, year-minus}
+use Rattle.date_forms.proofs.ReadBack.{year-four, year-plus, year-minus, spoken}
 
 -- ---- years
 
@@ -99,11 +100,7 @@ module _ (text : List ℕ) (d : IsoDate) (rest : List ℕ) (e : dateForm text �
 
 -- ---- times
 
--- the text of the numbers of a clock
-abbrev spoken : ℕ → ℕ → Seconds → List ℕ
-spoken h m s = padded 2 h ++ ((colon ∷ padded 2 m) ++ ((colon ∷ padded 2 (s .second)) ++ fractionText (s .billionths)))
-
--- it is the text of the time that they say, unless they say second 60
+-- the text of the numbers of a clock is the text of the time that they say, unless they say second 60
 module _ (h m : ℕ) (s : Seconds) where
   billionths-back : billionthsOf (clockTime h m s) ≡ s .billionths
   unfolding clockTime
@@ -117,7 +114,8 @@ module _ (h m : ℕ) (s : Seconds) where
   unfolding leapText clockTime
   leap-text e = (rw e, rw (billionths-back, eqb-true (s .second) 60 e))
 
-same-length : (t : IsoTime) → length (leapText t) ≡ length (timeText t)
+-- second 60 is as short as any other
+pub same-length : (t : IsoTime) → length (leapText t) ≡ length (timeText t)
 unfolding leapText timeText
 same-length t = simp (length-append, padded-length)
 
@@ -183,11 +181,3 @@ time-longest text t rest e =
     let c : length v ≤ 13 + length after =
     one-or-other (secondsForm v) _ k (λ p. seconds-read v s after p .1) (λ p. omega (arith, ap length (took-inj (seconds 0 0) s v after p .1))) in
     omega (arith, a, b, ap length (same .1)))))
-
--- a time with seconds is a time
-pub seconds-said : (text : List ℕ) (t : IsoTime) (rest : List ℕ) → timeWithSeconds text ≡ took t rest → timeForm text ≡ took t rest
-unfolding timeWithSeconds timeForm
-seconds-said text t rest e =
-    through (digits 2 text) _ e (λ h u f g.
-    through (marked colon (digits 2) u) _ g (λ m v i j.
-    through (secondsForm v) _ j (λ s after k l. rw (f, i, k) l)))

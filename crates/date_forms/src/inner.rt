@@ -35,13 +35,13 @@ pub fn date_at(text: &[u8], at: usize) -> DatePiece
     requires { ⌜ at ≤ length (now text) ⌝ }
     ensures { λ r. ⌜ ReadsDate (now (text .entry)) (dateForm (drop at (now (text .entry)))) r ⌝ }
 {
-    let YearPiece::Is(year, m) = year_at(text, at) else {
+    let YearPiece::Is(year, after_year) = year_at(text, at) else {
         return DatePiece::Not;
     };
-    let Piece::Is(month, d) = read_marked(text, m, b'-', 2) else {
+    let Piece::Is(month, after_month) = read_marked(text, after_year, b'-', 2) else {
         return DatePiece::Not;
     };
-    let Piece::Is(day, end) = read_marked(text, d, b'-', 2) else {
+    let Piece::Is(day, end) = read_marked(text, after_month, b'-', 2) else {
         return DatePiece::Not;
     };
     let date = IsoDate {
@@ -100,17 +100,17 @@ pub fn time_at(text: &[u8], at: usize) -> TimePiece
     requires { ⌜ at ≤ length (now text) ⌝ }
     ensures { λ r. ⌜ ReadsTime (now (text .entry)) (timeForm (drop at (now (text .entry)))) r ⌝ }
 {
-    let Piece::Is(hour, m) = read_digits(text, at, 2) else {
+    let Piece::Is(hour, after_hour) = read_digits(text, at, 2) else {
         return TimePiece::Not;
     };
-    let Piece::Is(minute, s) = read_marked(text, m, b':', 2) else {
+    let Piece::Is(minute, after_minute) = read_marked(text, after_hour, b':', 2) else {
         return TimePiece::Not;
     };
-    let Piece::Is(second, f) = read_marked(text, s, b':', 2) else {
-        return TimePiece::Is(clock(hour, minute, 0, 0), s);
+    let Piece::Is(second, after_second) = read_marked(text, after_minute, b':', 2) else {
+        return TimePiece::Is(clock(hour, minute, 0, 0), after_minute);
     };
-    let Piece::Is(billionths, end) = read_fraction(text, f) else {
-        return TimePiece::Is(clock(hour, minute, second, 0), f);
+    let Piece::Is(billionths, end) = read_fraction(text, after_second) else {
+        return TimePiece::Is(clock(hour, minute, second, 0), after_second);
     };
     TimePiece::Is(clock(hour, minute, second, billionths), end)
 }
@@ -136,9 +136,9 @@ pub fn put_date(out: &mut [u8], at: usize, date: IsoDate) -> usize
     requires { ⌜ at + length (dateText date) ≤ length (now out) ⌝ }
     ensures { λ r. ⌜ Wrote (now (out .entry)) at (dateText date) (now (out .exit)) r ⌝ }
 {
-    let m = put_year(out, at, date.year);
-    let d = put_marked(out, m, b'-', 2, date.month as u64);
-    put_marked(out, d, b'-', 2, date.day as u64)
+    let after_year = put_year(out, at, date.year);
+    let after_month = put_marked(out, after_year, b'-', 2, date.month as u64);
+    put_marked(out, after_month, b'-', 2, date.day as u64)
 }
 
 // Four digits where they are enough, else a sign and six.
@@ -172,10 +172,10 @@ pub fn put_time(out: &mut [u8], at: usize, time: IsoTime, fraction: Trimmed) -> 
     requires { ⌜ Trims (billionthsOf time) fraction × (at + length (timeText time) ≤ length (now out)) ⌝ }
     ensures { λ r. ⌜ Wrote (now (out .entry)) at (timeText time) (now (out .exit)) r ⌝ }
 {
-    let m = put_padded(out, at, 2, time.hour as u64);
-    let s = put_marked(out, m, b':', 2, time.minute as u64);
-    let f = put_marked(out, s, b':', 2, time.second as u64);
-    put_fraction(out, f, fraction)
+    let after_hour = put_padded(out, at, 2, time.hour as u64);
+    let after_minute = put_marked(out, after_hour, b':', 2, time.minute as u64);
+    let after_second = put_marked(out, after_minute, b':', 2, time.second as u64);
+    put_fraction(out, after_second, fraction)
 }
 
 // The digits of a valid time's fraction of a second.

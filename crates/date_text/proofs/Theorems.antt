@@ -1,5 +1,6 @@
--- What holds of date text beyond the definitions of the calls: what is written is read back; of all texts that are read alike one is
--- the shortest, and it is what is written; a text has one reading; and a long text is none.
+-- What holds of date text beyond the definitions of the calls: what is written is read back; of the texts that say the seconds and are read
+-- alike, none is shorter than what is written, and none other is as short but the one with second 60 for 59; a long text is none; each text is
+-- of one kind; and records within the limits that have one text are one.
 use Prim.Native.Nat.{ℕ, suc, _+_, _≤_, _<_}
 use native.Mathlib.Omega.{arith}
 use mathlib.Core.Path.{_≡_, refl, sym, ap, _∙_}
@@ -32,8 +33,9 @@ use Rattle.forms.proofs.Shortest.{through, marked-only}
 use Rattle.date_forms.specs.Grammar.{dateForm, timeForm}
 use Rattle.date_forms.specs.Texts.{dateText, timeText}
 use Rattle.date_forms.specs.Claims.{timeWithSeconds, TimeSaysSeconds, leapText}
-use Rattle.date_forms.proofs.ReadBack.{date-back, time-back}
-use Rattle.date_forms.proofs.Shortest.{date-shortest, date-longest, time-shortest, time-longest, seconds-said}
+use Rattle.date_forms.proofs.ReadBack.{date-back, time-back, seconds-back, leap-back, seconds-said}
+use Rattle.date_forms.proofs.Shortest.{date-shortest, date-longest, time-shortest, time-longest, same-length}
+use Rattle.date_forms.proofs.OneKind.{time-is-no-date, date-is-no-time}
 use Rattle.date_text.specs.Paper.{capitalT, dateTimeForm, dateTimeText, wholly, readDate, readTime, readDateTime}
 use Rattle.date_text.specs.Paper.{fitting, writeDate, writeTime, writeDateTime}
 use Rattle.date_text.specs.Claims.{dateTimeWithSeconds, DateTimeSaysSeconds, leapDateTimeText}
@@ -46,6 +48,13 @@ date-fits d rest v low high =
     let p = valid-proper d v in
     let y = limit-year d (record { valid = v; low = low; high = high }) in
     date-back d rest (omega (arith, ints, y .0, y .1, size-of (d .year), range-of (d .year))) (omega (arith, p .month-high)) (omega (arith, p .day-high))
+
+-- the same of the date of a date with a time
+date-part-fits : (r : IsoDateTime) (rest : List ℕ) → dateTimeLimits r ≡ given tt → dateForm (dateText (r .date) ++ rest) ≡ took (r .date) rest
+date-part-fits r rest e =
+    let f = limits-fine r (sym e) in
+    let days = fine-day r f in
+    date-fits (r .date) rest (f .date-valid) (days .0) (days .1)
 
 -- what the checks of a date tell
 date-passed : (d : IsoDate) → dateLimits d ≡ given tt → (isValidISODate d ≡ true) × (isoDateWithinLimits d ≡ true)
@@ -75,9 +84,7 @@ time-is-read-back t e = rw (time-back t e, e)
 pub date-time-is-read-back : (r : IsoDateTime) → dateTimeLimits r ≡ given tt → readDateTime (dateTimeText r) ≡ given r
 unfolding readDateTime dateTimeForm dateTimeText marked
 date-time-is-read-back r e =
-    let f = limits-fine r (sym e) in
-    let days = fine-day r f in
-    rw (date-fits (r .date) (capitalT ∷ timeText (r .time)) (f .date-valid) (days .0) (days .1), time-back (r .time) (f .time-valid), e)
+    rw (date-part-fits r (capitalT ∷ timeText (r .time)) e, time-back (r .time) (limits-fine r (sym e) .time-valid), e)
 
 -- ---- and so is what a writer wrote
 
@@ -110,7 +117,8 @@ written-date-time-is-read-back r room text e =
     let p = then-given (dateTimeLimits r) (λ _. fitting room (dateTimeText r)) text e in
     rw (← fitted room (dateTimeText r) text (p .1 .1)) (date-time-is-read-back r (p .1 .0))
 
--- ---- of all texts that are read alike one is the shortest, and it is what is written
+-- ---- of the texts that say the seconds (a date has none) and are read alike, none is shorter than what is written, and none other is as short
+-- but the one with second 60 for 59
 
 -- what a reader read has the form, and nothing stands behind it
 took-wholly : {A : Type 0} (p : Parsed A) (a : A) → wholly p ≡ given a → p ≡ took a []
@@ -192,6 +200,52 @@ date-time-has-one-form text r e (u, f) =
     let same = took-inj u r [] [] (sym (all-said text u f) ∙ date-time-form text r e) .0 in
     all-shortest text r (f ∙ ap (λ (x : IsoDateTime). took x []) same)
 
+-- ---- what is written says its seconds, so the shortest is reached
+
+-- the text of a valid time says its seconds
+pub written-time-says-seconds : (t : IsoTime) → isValidTime t ≡ true → TimeSaysSeconds (timeText t)
+written-time-says-seconds t e = (t, seconds-back t e)
+
+-- the text of a date, and a time's text that says its seconds, are a date with a time that says its seconds
+with-seconds : (r : IsoDateTime) (text : List ℕ) → dateTimeLimits r ≡ given tt → timeWithSeconds text ≡ took (r .time) [] →
+    dateTimeWithSeconds (dateText (r .date) ++ (capitalT ∷ text)) ≡ took r []
+unfolding dateTimeWithSeconds marked
+with-seconds r text e f = rw (date-part-fits r (capitalT ∷ text) e, f)
+
+date-time-seconds-back : (r : IsoDateTime) → dateTimeLimits r ≡ given tt → dateTimeWithSeconds (dateTimeText r) ≡ took r []
+unfolding dateTimeText
+date-time-seconds-back r e = with-seconds r (timeText (r .time)) e (seconds-back (r .time) (limits-fine r (sym e) .time-valid))
+
+-- the text of a date with a time within the limits says its seconds
+pub written-date-time-says-seconds : (r : IsoDateTime) → dateTimeLimits r ≡ given tt → DateTimeSaysSeconds (dateTimeText r)
+written-date-time-says-seconds r e = (r, date-time-seconds-back r e)
+
+-- ---- the one exception is real: second 60 in place of 59 is read alike, is as short, and says the seconds
+
+-- the text of a valid time with second 60 in place of 59 is read as that time and is as long as its text
+pub leap-is-read : (t : IsoTime) → isValidTime t ≡ true → t .second ≡ 59 → (readTime (leapText t) ≡ given t) × (length (leapText t) ≡ length (timeText t))
+unfolding readTime
+leap-is-read t e last = (rw (seconds-said (leapText t) t [] (leap-back t e last), e), same-length t)
+
+-- it says its seconds
+pub leap-says-seconds : (t : IsoTime) → isValidTime t ≡ true → t .second ≡ 59 → TimeSaysSeconds (leapText t)
+leap-says-seconds t e last = (t, leap-back t e last)
+
+leap-date-time-back : (r : IsoDateTime) → dateTimeLimits r ≡ given tt → r .time .second ≡ 59 → dateTimeWithSeconds (leapDateTimeText r) ≡ took r []
+unfolding leapDateTimeText
+leap-date-time-back r e last = with-seconds r (leapText (r .time)) e (leap-back (r .time) (limits-fine r (sym e) .time-valid) last)
+
+-- the same of a date with a time within the limits
+pub leap-date-time-is-read : (r : IsoDateTime) → dateTimeLimits r ≡ given tt → r .time .second ≡ 59 →
+    (readDateTime (leapDateTimeText r) ≡ given r) × (length (leapDateTimeText r) ≡ length (dateTimeText r))
+unfolding readDateTime leapDateTimeText dateTimeText
+leap-date-time-is-read r e last =
+    (rw (all-said (leapDateTimeText r) r (leap-date-time-back r e last), e), simp (length-append, same-length (r .time)))
+
+-- it says its seconds
+pub leap-date-time-says-seconds : (r : IsoDateTime) → dateTimeLimits r ≡ given tt → r .time .second ≡ 59 → DateTimeSaysSeconds (leapDateTimeText r)
+leap-date-time-says-seconds r e last = (r, leap-date-time-back r e last)
+
 -- ---- a long text is none
 
 too-long : {A : Type 0} (p : Parsed A) (n : ℕ) (text : List ℕ) → ((a : A) (rest : List ℕ) → p ≡ took a rest → length text ≤ n + length rest) →
@@ -228,7 +282,29 @@ long-is-no-date-time text h = rw (too-long (dateTimeForm text) 32 text (date-tim
 pub over-64 : (text : List ℕ) → 64 < length text → (readDate text ≡ refused 9) × ((readTime text ≡ refused 9) × (readDateTime text ≡ refused 9))
 over-64 text h = (long-is-no-date text (omega arith), (long-is-no-time text (omega arith), long-is-no-date-time text (omega arith)))
 
--- ---- one text, one reading
+-- ---- each text is of one kind: a reader that is given a text of another kind answers 9
+
+-- a text that has the form of a date is neither a time nor a date with a time
+pub date-is-of-one-kind : (text : List ℕ) (d : IsoDate) → wholly (dateForm text) ≡ given d → (readTime text ≡ refused 9) × (readDateTime text ≡ refused 9)
+unfolding readTime readDateTime dateTimeForm marked
+date-is-of-one-kind text d e = let f = took-wholly (dateForm text) d e in (rw (date-is-no-time text d [] f), rw f)
+
+-- a text that has the form of a time is neither a date nor a date with a time
+pub time-is-of-one-kind : (text : List ℕ) (t : IsoTime) → wholly (timeForm text) ≡ given t → (readDate text ≡ refused 9) × (readDateTime text ≡ refused 9)
+unfolding readDate readDateTime dateTimeForm
+time-is-of-one-kind text t e = let f = time-is-no-date text t [] (took-wholly (timeForm text) t e) in (rw f, rw f)
+
+-- a text that has the form of a date with a time is neither a date nor a time
+pub date-time-is-of-one-kind : (text : List ℕ) (r : IsoDateTime) → wholly (dateTimeForm text) ≡ given r →
+    (readDate text ≡ refused 9) × (readTime text ≡ refused 9)
+unfolding readDate readTime dateTimeForm
+date-time-is-of-one-kind text r e =
+    through (dateForm text) _ (took-wholly (dateTimeForm text) r e) (λ d t f g.
+    through (marked capitalT timeForm t) _ g (λ c rest h i.
+    (rw (f, marked-only capitalT timeForm t c rest h .1 .0), rw (date-is-no-time text d t f))))
+
+-- ---- one text, one reading: `*-has-one-reading` holds since a reader is a function; what has content is `*-by-its-text` and, above,
+-- `*-is-of-one-kind`
 
 -- a text is read as one date at most
 pub date-has-one-reading : (text : List ℕ) (a b : IsoDate) → readDate text ≡ given a → readDate text ≡ given b → a ≡ b

@@ -1,7 +1,6 @@
 -- The value times what one of its last digits counts.
 use borrow.Author.Needs.{needs}
 use native.Mathlib.Omega.{arith}
-use Prim.Native.Nat.{_-_}
 use borrow.Author.Tests.{eq-eqb, ne-eqb}
 use Rattle.forms.proofs.Fractions.{place-is, filled-small}
 use Rattle.forms.proofs.inner.fill.Statement.{statement}
