@@ -3,7 +3,7 @@ use Prim.Native.Nat.{ℕ, _+_, _≤_}
 use mathlib.Core.List.{List, [], _∷_, _++_}
 use lib.IntN.{ℤ, pos, negℤ}
 use Rattle.refusal.specs.Answer.{Answer, given, refused}
-use Rattle.lines.specs.Text.{digitZero, space}
+use Rattle.lines.specs.Text.{digitZero, space, questionMark}
 use Rattle.writing.specs.Text.{decimal, spaced}
 use Rattle.writing.specs.Wrote.{Wrote}
 use Rattle.iso_date.specs.declared.IsoDate.{IsoDate}
@@ -21,6 +21,10 @@ use Rattle.iso_date_time.specs.declared.InternalDurationRecord.{InternalDuratio
 abbrev pub replyText : Answer (List ℕ) → List ℕ
 replyText (given bytes) = digitZero ∷ bytes
 replyText (refused n) = decimal (pos n)
+
+-- what answers a line that is no request
+abbrev pub question : List ℕ
+question = questionMark ∷ []
 
 -- the bytes that follow the 0 where an answer's values are numbers
 abbrev pub shown : {A : Type 0} → (A → List ℤ) → Answer A → Answer (List ℕ)

@@ -17,10 +17,11 @@ use Rattle.parameters.specs.Kinds.{Kind, Arguments, these, noArguments, argumen
 use Rattle.parameters.specs.Letters.{lettersKinds}
 use Rattle.parameters.specs.Meaning.{Reads, numbersIn}
 use Rattle.parameters.specs.declared.Numbers.{Numbers}
-use Rattle.replies.specs.Replies.{replyText, Replied}
-use Rattle.calls.specs.Table.{Row, calls, TextRow, textCalls, bytes, noRow, placeIn}
+use Rattle.replies.specs.Replies.{replyText, question, Replied}
+use Rattle.calls.specs.Table.{Row, calls, textCalls, bytes, noRow, placeIn}
 use Rattle.calls.specs.Ready.{Ready}
-use Rattle.requests.specs.Requests.{question, replyWith, replyByText, replyBy, replyTo, lineRoom}
+use Rattle.requests.specs.Requests.{replyWith, replyBy, replyTo, lineRoom}
+use Rattle.text_calls.specs.Texts.{replyByText}
 use Rattle.requests.specs.Layout.{nameRoom, rowRoom, column, kindsIn, namesOf, takenBy, Spells}
 
 -- ---- the name and the letters at a place of the table
@@ -230,44 +231,6 @@ module _ (line : List ℕ) (some : length line ≡ 0 → ⊥) (fits : length lin
 
     pub good-reply : n .known ≡ true → replyText (getD calls place noRow .answers (numbersIn n)) ≡ replyTo line
     good-reply e = ap (replyWith (getD calls place noRow .answers)) (when-true (n .known) (these (numbersIn n)) noArguments _ e (read .reads-as)) ∙ there
-
--- ---- what answers a line with a text
-
--- without a space behind the name there is no text
-no-text-by : (rs : List TextRow) (line : List ℕ) → rest line ≡ [] → replyByText rs line ≡ question
-unfolding replyByText
-no-text-by [] line e = refl
-no-text-by (r ∷ rs) line e = rw (e, no-text-by rs line e) (either (sameBytes (word line) (bytes (r .name))))
-  where
-    either : (t : Bool) → cond t question question ≡ question
-    either true = refl
-    either false = refl
-
-pub no-text : (line : List ℕ) (end : ℕ) → end ≡ length (word line) → end ≡ length line → question ≡ replyByText textCalls line
-no-text line end e f =
-    let all : length line ≤ end = omega arith in
-    let over : drop end line ≡ [] = drop-of-length-le line all in
-    sym (no-text-by textCalls line (sym (rest-start line) ∙ ap (λ (k : ℕ). drop k line) (sym e) ∙ over))
-
-pub no-text-call : (line : List ℕ) → question ≡ replyByText [] line
-unfolding replyByText
-no-text-call line = refl
-
--- a name that was compared
-module _ (line : List ℕ) (end : ℕ) (ends : end ≡ length (word line)) (inside : end < length line) where
-  name-is : take end line ≡ word line
-  name-is = ap (λ (k : ℕ). take k line) ends ∙ word-start line
-
-  text-is : rest line ≡ getD line end 0 ∷ drop (end + 1) line
-  text-is = sym (rest-start line) ∙ ap (λ (k : ℕ). drop k line) (sym ends) ∙ rw (add-one end, drop-cons line end 0 inside)
-
-  pub text-here : (r : TextRow) (rs : List TextRow) → take end line ≡ bytes (r .name) → replyText (r .answers (drop (end + 1) line)) ≡ replyByText (r ∷ rs) line
-  unfolding replyByText
-  text-here r rs e = rw (same-yes (word line) (bytes (r .name)) (sym name-is ∙ e), text-is)
-
-  pub text-later : (r : TextRow) (rs : List TextRow) → (take end line ≡ bytes (r .name) → ⊥) → replyByText rs line ≡ replyByText (r ∷ rs) line
-  unfolding replyByText
-  text-later r rs n = rw (same-no (word line) (bytes (r .name)) (λ e. n (name-is ∙ e)))
 
 -- ---- the call at a place
 

@@ -6,27 +6,15 @@ use lib.Dec.{leb}
 use lib.ListN.{length}
 use lib.IntN.{ℤ}
 use Rattle.refusal.specs.Answer.{Answer}
-use Rattle.lines.specs.Text.{word, rest, sameBytes, questionMark, newline}
+use Rattle.lines.specs.Text.{word, rest, sameBytes, newline}
 use Rattle.parameters.specs.Kinds.{Arguments, these, noArguments, arguments}
-use Rattle.replies.specs.Replies.{replyText}
-use Rattle.calls.specs.Table.{Row, calls, TextRow, textCalls, bytes}
-
--- what answers a line that is no request
-abbrev pub question : List ℕ
-question = questionMark ∷ []
+use Rattle.replies.specs.Replies.{replyText, question}
+use Rattle.calls.specs.Table.{Row, calls, textCalls, bytes}
+use Rattle.text_calls.specs.Texts.{replyByText}
 
 abbrev pub replyWith : (List ℤ → Answer (List ℕ)) → Arguments → List ℕ
 replyWith answers noArguments = question
 replyWith answers (these zs) = replyText (answers zs)
-
--- a call that takes a text takes all that follows the space behind its name; without the space there is no text
-abbrev pub replyOnText : (List ℕ → Answer (List ℕ)) → List ℕ → List ℕ
-replyOnText answers [] = question
-replyOnText answers (b ∷ text) = replyText (answers text)
-
-unfoldable pub replyByText : List TextRow → List ℕ → List ℕ
-replyByText [] line = question
-replyByText (r ∷ rs) line = cond (sameBytes (word line) (bytes (r .name))) (replyOnText (r .answers) (rest line)) (replyByText rs line)
 
 -- the call that the first word names answers to the numbers that follow, or to the text
 unfoldable pub replyBy : List Row → List ℕ → List ℕ

@@ -8,9 +8,7 @@ use check::same;
 use lines::word_end;
 use parameters::Numbers;
 use parameters::inner::numbers_of;
-use text_calls::inner::read_date;
-use text_calls::inner::read_datetime;
-use text_calls::inner::read_time;
+use text_calls::inner::answer_text;
 use text_calls::inner::write_date;
 use text_calls::inner::write_datetime;
 use text_calls::inner::write_time;
@@ -24,9 +22,9 @@ ghost use Rattle.writing.specs.Wrote.{Wrote};
 ghost use Rattle.parameters.specs.Kinds.{arguments};
 ghost use Rattle.parameters.specs.Meaning.{Reads, numbersIn};
 ghost use Rattle.replies.specs.Replies.{Replied};
-ghost use Rattle.calls.specs.Table.{calls, textCalls, placeIn, noRow};
+ghost use Rattle.calls.specs.Table.{calls, placeIn, noRow};
 ghost use Rattle.calls.specs.Ready.{Ready};
-ghost use Rattle.requests.specs.Requests.{replyByText, replyTo, responseTo};
+ghost use Rattle.requests.specs.Requests.{replyTo, responseTo};
 ghost use Rattle.requests.specs.Layout.{Spells};
 
 // How many calls take numbers, and how many bytes of the table each has: for its name, and in all.
@@ -186,25 +184,4 @@ fn answer(place: usize, n: Numbers, out: &mut [u8], at: usize) -> usize
         // No place is past the last call.
         _ => at,
     }
-}
-
-// What the call that takes a text answers, where the first word of the line names one.
-fn answer_text(line: &[u8], end: usize, out: &mut [u8], at: usize) -> usize
-    requires { ⌜ (end ≡ length (word (now line))) × (at + 255 ≤ length (now out)) ⌝ }
-    ensures { λ r. ⌜ Wrote (now (out .entry)) at (replyByText textCalls (now (line .entry))) (now (out .exit)) r × (r ≤ at + 255) ⌝ }
-{
-    if end == line.len() {
-        return put_byte(out, at, b'?');
-    }
-    let start = end + 1;
-    if same(&line[..end], b"read_date") {
-        return read_date(&line[start..], out, at);
-    }
-    if same(&line[..end], b"read_time") {
-        return read_time(&line[start..], out, at);
-    }
-    if same(&line[..end], b"read_datetime") {
-        return read_datetime(&line[start..], out, at);
-    }
-    put_byte(out, at, b'?')
 }

@@ -16,7 +16,8 @@ use Rattle.whole.proofs.Tests.{clash}
 use Rattle.lines.specs.Text.{newline}
 use Rattle.writing.specs.Wrote.{Wrote}
 use Rattle.writing.proofs.Writing.{after, nothing, wrote-once}
-use Rattle.requests.specs.Requests.{replyTo, responseTo, question, lineRoom}
+use Rattle.requests.specs.Requests.{replyTo, responseTo, lineRoom}
+use Rattle.replies.specs.Replies.{question}
 use Rattle.stream.specs.Stream.{answered, pendingAfter, lastAnswer, outputOf, responseRoom, Kept, kept, keptWith, keptAfter, Holds}
 use Rattle.stream.specs.Stream.{Inside, Roomy, Stops, Took, Taken, begun, more}
 use Rattle.stream.specs.declared.inner.Progress.{Progress}

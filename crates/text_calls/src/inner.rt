@@ -1,4 +1,5 @@
 // The calls that read or write text: the text or the numbers of a request as the call's parameters, the call, and its answer as the reply.
+use check::same;
 use date_text::LengthResult;
 use parameters::Numbers;
 use parameters::inner::values::date;
@@ -13,17 +14,40 @@ use writing::inner::put_digits;
 ghost use mathlib.Core.Path.{_≡_};
 ghost use Prim.Native.Nat.{_+_, _≤_};
 ghost use lib.ListN.{length};
+ghost use Rattle.lines.specs.Text.{word};
 ghost use Rattle.writing.specs.Wrote.{Wrote};
 ghost use Rattle.parameters.specs.Meaning.{numbersIn};
 ghost use Rattle.replies.specs.Replies.{Replied};
-ghost use Rattle.calls.specs.Table.{takesOf, answersOf, textAnswersOf};
+ghost use Rattle.calls.specs.Table.{takesOf, answersOf, textCalls, textAnswersOf};
 ghost use Rattle.calls.specs.Ready.{Ready};
+ghost use Rattle.text_calls.specs.Texts.{replyByText};
 ghost use Rattle.text_calls.specs.Heads.{headOf, behind};
 
 // The bytes before a text that was written: a 0 and a space.
 const HEAD: usize = 2;
 
-pub fn read_date(text: &[u8], out: &mut [u8], at: usize) -> usize
+// What the call that takes a text answers, where the first word of the line names one.
+pub fn answer_text(line: &[u8], end: usize, out: &mut [u8], at: usize) -> usize
+    requires { ⌜ (end ≡ length (word (now line))) × (at + 255 ≤ length (now out)) ⌝ }
+    ensures { λ r. ⌜ Wrote (now (out .entry)) at (replyByText textCalls (now (line .entry))) (now (out .exit)) r × (r ≤ at + 255) ⌝ }
+{
+    if end == line.len() {
+        return put_byte(out, at, b'?');
+    }
+    let start = end + 1;
+    if same(&line[..end], b"read_date") {
+        return read_date(&line[start..], out, at);
+    }
+    if same(&line[..end], b"read_time") {
+        return read_time(&line[start..], out, at);
+    }
+    if same(&line[..end], b"read_datetime") {
+        return read_datetime(&line[start..], out, at);
+    }
+    put_byte(out, at, b'?')
+}
+
+fn read_date(text: &[u8], out: &mut [u8], at: usize) -> usize
     requires { ⌜ at + 255 ≤ length (now out) ⌝ }
     ensures { λ r. ⌜ Replied (now (out .entry)) at (textAnswersOf "read_date" (now (text .entry))) (now (out .exit)) r ⌝ }
 {
@@ -31,7 +55,7 @@ pub fn read_date(text: &[u8], out: &mut [u8], at: usize) -> usize
     date_reply(out, at, answer)
 }
 
-pub fn read_time(text: &[u8], out: &mut [u8], at: usize) -> usize
+fn read_time(text: &[u8], out: &mut [u8], at: usize) -> usize
     requires { ⌜ at + 255 ≤ length (now out) ⌝ }
     ensures { λ r. ⌜ Replied (now (out .entry)) at (textAnswersOf "read_time" (now (text .entry))) (now (out .exit)) r ⌝ }
 {
@@ -39,7 +63,7 @@ pub fn read_time(text: &[u8], out: &mut [u8], at: usize) -> usize
     time_reply(out, at, answer)
 }
 
-pub fn read_datetime(text: &[u8], out: &mut [u8], at: usize) -> usize
+fn read_datetime(text: &[u8], out: &mut [u8], at: usize) -> usize
     requires { ⌜ at + 255 ≤ length (now out) ⌝ }
     ensures { λ r. ⌜ Replied (now (out .entry)) at (textAnswersOf "read_datetime" (now (text .entry))) (now (out .exit)) r ⌝ }
 {

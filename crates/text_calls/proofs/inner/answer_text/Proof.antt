@@ -11,10 +11,10 @@ use Rattle.lines.proofs.Words.{word-inside}
 use Rattle.writing.proofs.Writing.{wrote-as}
 use Rattle.replies.specs.Replies.{replyText}
 use Rattle.calls.specs.Table.{textAnswersOf, textCalls}
-use Rattle.requests.specs.Requests.{replyByText}
-use Rattle.requests.proofs.Laws.{no-text, no-text-call, text-here, text-later}
-use Rattle.requests.proofs.inner.answer_text.Statement.{statement}
-use Rattle.requests.proofs.inner.answer_text.Tie as tie
+use Rattle.text_calls.specs.Texts.{replyByText}
+use Rattle.text_calls.proofs.Names.{no-text, no-text-call, text-here, text-later}
+use Rattle.text_calls.proofs.inner.answer_text.Statement.{statement}
+use Rattle.text_calls.proofs.inner.answer_text.Tie as tie
 
 abbrev line : tie.Start → List ℕ
 line s = s .args .line .now
