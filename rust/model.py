@@ -323,11 +323,20 @@ def date_sum(y, m, d, years, months, weeks, days, overflow):
     return date_count(day_of(*date) + days + 7 * weeks)
 
 
+def tries(apart, months):
+    """how many comparisons the trial of years and months makes, by the difference of the years and all months found"""
+    # Years are tried first under month too: what counts is what was found before folding.
+    years, months = divmod(abs(months), 12)
+    year_tries = 3 if apart != 0 and years == abs(apart) else 2
+    # The last month that is tried is one that passes, and so is none of those found.
+    return year_tries + months + 1
+
+
 def difference(one, two, unit):
     if one == two:
-        return 0, 0, 0, 0
+        return 0, 0, 0, 0, 0
     sign = 1 if two > one else -1
-    months = 0
+    months = count = 0
     if unit <= MONTH:
         # The months between the two months, less one where the day of one lies beyond the day of two.
         months = (two[0] - one[0]) * 12 + two[1] - one[1]
@@ -336,17 +345,18 @@ def difference(one, two, unit):
         # Not below zero in the direction of the sign: within one month there is no whole one.
         if months * sign < 0:
             months = 0
+        count = tries(two[0] - one[0], months)
     y, m = balance_ym(one[0], one[1] + months)
     days = day_of(*two) - day_of(y, m, min(one[2], mlen(y, m)))
     if unit == YEAR:
         years, months = divmod(abs(months), 12)
-        return sign * years, sign * months, 0, days
+        return sign * years, sign * months, 0, days, count
     if unit == MONTH:
-        return 0, months, 0, days
+        return 0, months, 0, days, count
     if unit == WEEK:
         weeks, days = divmod(abs(days), 7)
-        return 0, 0, sign * weeks, sign * days
-    return 0, 0, 0, days
+        return 0, 0, sign * weeks, sign * days, count
+    return 0, 0, 0, days, count
 
 
 def date_difference(*a):
@@ -390,11 +400,11 @@ def datetime_difference(*a):
     if time_sign and time_sign == -date_sign:
         two = date_of(day_of(*two) + time_sign)
         time -= time_sign * NSD
-    years, months, weeks, days = difference(one, two, min(unit, DAY))
+    years, months, weeks, days, count = difference(one, two, min(unit, DAY))
     if unit > DAY:
         time += days * NSD
         days = 0
-    return (years, months, weeks, days) + split(time)
+    return (years, months, weeks, days) + split(time) + (count,)
 
 
 def datetime_from_instant(day, ns, offset):

@@ -8,7 +8,7 @@ use crate::parsers::{IxdtfStringBuilder, Precision};
 use crate::rounding::IncrementRounder;
 use crate::unix_time::EpochNanoseconds;
 use crate::writeable::Writeable;
-use crate::{utils, TemporalError, TemporalResult, NS_PER_DAY};
+use crate::{trial, utils, TemporalError, TemporalResult, NS_PER_DAY};
 use core::fmt;
 use core::num::NonZeroU128;
 use lines::{text, Call, Request};
@@ -89,7 +89,11 @@ fn work(request: &Request) -> Answer {
             duration_answer(duration(n).adjust(n[4] as i64, weeks, months)?)
         }
         Call::DateSum => date_answer(date(n).add_date_duration(&duration(&n[3..]), overflow(n[7]))?),
-        Call::DateDifference => duration_answer(date(n).diff_iso_date(&date(&n[3..]), unit(n[6]))?),
+        Call::DateDifference => {
+            let (span, count) = trial::counted(|| date(n).diff_iso_date(&date(&n[3..]), unit(n[6])));
+            let span = span?;
+            values([span.years, span.months, span.weeks, span.days, count])
+        }
         Call::DateTimeLimits => {
             date_time(n).check_within_limits()?;
             values::<i64, 0>([])
@@ -100,9 +104,10 @@ fn work(request: &Request) -> Answer {
             Some(options) => date_time_answer(date_time(n).round(options)?),
         },
         Call::DateTimeDifference => {
-            let span = date_time(n).diff(&date_time(&n[9..]), &Calendar, unit(n[18]))?;
+            let (span, count) = trial::counted(|| date_time(n).diff(&date_time(&n[9..]), &Calendar, unit(n[18])));
+            let span = span?;
             let (date, time) = (span.date(), span.normalized_time_duration());
-            values([date.years, date.months, date.weeks, date.days, time.seconds(), time.subseconds().into()])
+            values([date.years, date.months, date.weeks, date.days, time.seconds(), time.subseconds().into(), count])
         }
         Call::DateTimeFromInstant => {
             let nanoseconds = n[0] * i128::from(NS_PER_DAY) + n[1];

@@ -13,6 +13,7 @@ extern crate alloc;
 
 mod calls;
 mod filled;
+mod trial;
 
 // The Rust's text, as rust/oracle/build lays it beside this file.
 #[allow(dead_code, unused_imports)]

@@ -327,14 +327,14 @@ fn limits_unchecked(request: &Request, rust: &Rust) -> Option<Paper> {
     refusal_if(rust.computes(request), number)
 }
 
-/// D-11: a unit below day is 5 for a date difference, equal dates included; the Rust gives the days.
+/// D-11: a unit below day is 5 for a date difference, equal dates included; the Rust gives the days, without a trial.
 fn small_unit_as_day(request: &Request, rust: &Rust) -> Option<Paper> {
     let n = request.numbers();
     if request.call != Call::DateDifference || n[6] <= DAY || record_refusal(request).is_some() {
         return None;
     }
     let days = day_number(n[3], n[4], n[5]) - day_number(n[0], n[1], n[2]);
-    refusal_if(*rust == Rust::Values(vec![0, 0, 0, days]), 5)
+    refusal_if(*rust == Rust::Values(vec![0, 0, 0, days, 0]), 5)
 }
 
 /// D-12: an exact day count beyond 100,000,001 in size is 4; the Rust has no such test, and gives a date or overflows.

@@ -1,9 +1,9 @@
 //! Makes the requests of a comparison: `requests SEED N CALL..` writes N lines for each call, the same for a seed.
 //!
-//! The fixed lines of a call come first: the readings of the rules and the smallest inputs of the listed differences.
-//! Then, for date text, the swept ones. The rest is drawn at random, most of it from around the places where an answer
-//! turns: limits, ends of types, month ends, leap days, ties, bounds, good texts with one byte damaged. About one line in
-//! 200 is spoiled so that it is no request.
+//! The fixed lines of a call come first: the readings of the rules, the smallest inputs of the listed differences, and
+//! for differences of dates every count of the trial. Then, for date text, the swept ones. The rest is drawn at random,
+//! most of it from around the places where an answer turns: limits, ends of types, month ends, leap days, ties, bounds,
+//! good texts with one byte damaged. About one line in 200 is spoiled so that it is no request.
 
 use lines::days::{balance_year_month, date_of, day_number, month_length};
 use lines::text::{written_date, written_date_time, written_time, written_year, LONGEST};
@@ -272,7 +272,7 @@ impl Source {
     /// Two date records: far apart, a few days, months or years apart, equal, or with any fields.
     fn two_dates(&mut self) -> ([i128; 3], [i128; 3]) {
         let one = self.day_within_limits();
-        let two = match self.below(12) {
+        let two = match self.below(14) {
             0..=1 => return (self.date(), self.date()),
             2 => return (self.month_end(), self.month_end()),
             3 => {
@@ -285,9 +285,32 @@ impl Source {
             6..=7 => one + self.between(-70, 70),
             8..=9 => one + self.between(-1_500, 1_500),
             10 => one + self.signed(200_000),
+            11..=12 => return self.whole_months_apart(),
             _ => self.between(-LAST_BALANCED, LAST_BALANCED - 1),
         };
-        (date_fields(one), date_fields(two.clamp(-LAST_BALANCED, LAST_BALANCED - 1)))
+        [one, two].map(date_in_limits).into()
+    }
+
+    /// Two dates whole months apart, or a day beside that: one month more is found there, or one less. The first is often
+    /// an end of its year: many months lie within that year then, and one day more or less leads into another.
+    fn whole_months_apart(&mut self) -> ([i128; 3], [i128; 3]) {
+        let [year, month, day] = self.good_date();
+        let (month, day) = match self.below(4) {
+            0 => (1, 1),
+            1 => (12, 31),
+            _ => (month, day),
+        };
+        let years = match self.below(4) {
+            0 => 0,
+            1 => self.sign(),
+            2 => self.between(-5, 5),
+            _ => self.signed(540_000),
+        };
+        let months = if self.once_in(2) { self.one_of(&[-12, -11, 11, 12]) } else { self.between(-12, 12) };
+        let (y, m) = balance_year_month(year, month + 12 * years + months);
+        let one = day_number(year, month, day);
+        let two = day_number(y, m, day.min(month_length(y, m))) + self.between(-1, 1);
+        [one, two].map(date_in_limits).into()
     }
 
     /// Year, month and day to be balanced, often so that the exact count comes out at a chosen place.
@@ -811,7 +834,12 @@ impl Source {
                 }
                 [&date_time[..], &options[..]].concat()
             }
-            Call::DateTimeDifference => [&self.two_date_times()[..], &[self.between(0, 9)]].concat(),
+            Call::DateTimeDifference => {
+                let both = self.two_date_times();
+                // Year and month over their share: only they have a trial.
+                let unit = if self.once_in(3) { self.between(0, 1) } else { self.between(0, 9) };
+                [&both[..], &[unit]].concat()
+            }
             Call::DateTimeFromInstant => self.instant().to_vec(),
             // They take a text and nothing before it.
             Call::ReadDate | Call::ReadTime | Call::ReadDateTime => Vec::new(),
@@ -885,6 +913,11 @@ impl Source {
 fn date_fields(day: i128) -> [i128; 3] {
     let (year, month, day) = date_of(day);
     [year, month, day]
+}
+
+/// The date of a day number, or of the limit that it lies beyond.
+fn date_in_limits(day: i128) -> [i128; 3] {
+    date_fields(day.clamp(-LAST_BALANCED, LAST_BALANCED - 1))
 }
 
 fn time_fields(nanosecond: i128) -> [i128; 6] {
