@@ -19,25 +19,29 @@ use Rattle.date_duration.specs.Proposal.{anyBelow, anyAbove, small, smallDays, 
 use Rattle.date_math.specs.Proposal.{movedBy, isLater, kept, yearsUntil, monthsUntil, restStart, daysUntil, yearsFound, monthsFound}
 use Rattle.date_math.specs.Proposal.{weeksFound, dateUntil, calendarDateUntil}
 use Rattle.date_math.specs.Paper.{sumSteps, dateSum, dateDifference}
-use Rattle.date_math.specs.Inner.{placeOf, yearsIn, monthsIn, weeksIn}
-use Rattle.date_math.proofs.Theorems.{always-given}
+use Rattle.date_math.specs.Tries.{tries, yearTries, monthTries, triesUntil, calendarDateTries}
+use Rattle.date_math.specs.Inner.{placeOf, yearsIn, monthsIn, weeksIn, yearTriesIn, triesIn}
 use Rattle.date_math.proofs.Until.{difference-is}
+use Rattle.date_math.proofs.Tries.{tries-found, with-tries}
+use Rattle.date_math.proofs.Counts.{all-given}
 use Rattle.options.specs.declared.Unit.the-variants as U
-use Rattle.replies.specs.Replies.{shown, durationValues}
+use Rattle.replies.specs.Replies.{shown, dateDifferenceValues}
 use Rattle.calls.specs.Table.{answersOf}
 use Rattle.calls.specs.Readings.{AllAnswered, readings}
 
--- the whole span of the calendar: the candidates are too many to be tried one by one here, so the difference is taken in closed form
+-- the whole span of the calendar: the candidates are too many to be tried one by one here, so the difference and the number of those that
+-- are tried are taken in closed form
 whole-span : answersOf "date_difference" (negℤ (pos 271821) ∷ pos 4 ∷ pos 19 ∷ pos 275760 ∷ pos 9 ∷ pos 13 ∷ pos 0 ∷ []) ≡
-    shown (λ vs. vs) (given (pos 547581 ∷ pos 4 ∷ pos 0 ∷ pos 25 ∷ []))
-unfolding placeOf yearsIn monthsIn weeksIn fdiv fmod dayFromYear leapYear monthLengths isoDaysInMonth daysBeforeMonth dayFromMonth isoDateToEpochDays
-    isValidISODate constrainISODate nsWithinLimits movedBy restStart
+    shown (λ vs. vs) (given (pos 547581 ∷ pos 4 ∷ pos 0 ∷ pos 25 ∷ pos 8 ∷ []))
+unfolding placeOf yearsIn monthsIn weeksIn yearTriesIn triesIn fdiv fmod dayFromYear leapYear monthLengths isoDaysInMonth daysBeforeMonth dayFromMonth
+    isoDateToEpochDays isValidISODate constrainISODate nsWithinLimits movedBy restStart
 whole-span =
     let one : IsoDate = date (negℤ (pos 271821)) 4 19 in
     let two : IsoDate = date (pos 275760) 9 13 in
-    ap (shown durationValues)
-    (always-given one two U.Year refl refl refl refl refl ∙
-    ap given (difference-is true one two U.Year refl refl 210271258 25 refl refl))
+    ap (shown dateDifferenceValues)
+    (all-given one two U.Year refl refl refl refl refl ∙
+    ap given (with-tries _ _ _ _ (difference-is true one two U.Year refl refl 210271258 25 refl refl)
+    (tries-found true one two refl refl 210271258 refl U.Year)))
 
 pub every-reading : AllAnswered readings
 unfolding fdiv fmod clampZ dayFromYear leapYear monthLengths isoDaysInMonth daysBeforeMonth dayFromMonth isoDateToEpochDays isValidISODate yearFromDay
@@ -45,7 +49,7 @@ unfolding fdiv fmod clampZ dayFromYear leapYear monthLengths isoDaysInMonth days
     getUnsignedRoundingMode applyUnsignedRoundingMode roundQuotient roundNumberToIncrement roundNumberToIncrementAsIfPositive inSigned64 roundNumber
     roundNumberAsIfPositive isValidTime balanceTime nanoseconds unitLength quantity roundedUnits roundTime validIncrement allBounded balanceTimeFields
     roundedTime anyBelow anyAbove small smallDays allSmall isValidDuration movedBy isLater kept yearsUntil monthsUntil restStart daysUntil yearsFound
-    monthsFound weeksFound dateUntil calendarDateUntil sumSteps dateSum dateDifference
+    monthsFound weeksFound dateUntil calendarDateUntil tries yearTries monthTries triesUntil calendarDateTries sumSteps dateSum dateDifference
 every-reading = (
   record { takes = refl; answers = refl },
   (

@@ -52,14 +52,14 @@ readings =
     reading "balance_time" (pos 0 ∷ pos 0 ∷ pos 0 ∷ pos 0 ∷ pos 0 ∷ negℤ (pos 1) ∷ [])
     (given (negℤ (pos 1) ∷ pos 23 ∷ pos 59 ∷ pos 59 ∷ pos 999 ∷ pos 999 ∷ pos 999 ∷ [])) ∷
     reading "date_difference" (pos 2021 ∷ pos 3 ∷ pos 31 ∷ pos 2021 ∷ pos 2 ∷ pos 28 ∷ pos 1 ∷ [])
-    (given (pos 0 ∷ negℤ (pos 1) ∷ pos 0 ∷ pos 0 ∷ [])) ∷
+    (given (pos 0 ∷ negℤ (pos 1) ∷ pos 0 ∷ pos 0 ∷ pos 4 ∷ [])) ∷
     reading "date_difference" (pos 2021 ∷ pos 1 ∷ pos 31 ∷ pos 2021 ∷ pos 2 ∷ pos 28 ∷ pos 1 ∷ [])
-    (given (pos 0 ∷ pos 0 ∷ pos 0 ∷ pos 28 ∷ [])) ∷
+    (given (pos 0 ∷ pos 0 ∷ pos 0 ∷ pos 28 ∷ pos 3 ∷ [])) ∷
     reading "date_difference" (pos 2020 ∷ pos 2 ∷ pos 29 ∷ pos 2021 ∷ pos 2 ∷ pos 28 ∷ pos 0 ∷ [])
-    (given (pos 0 ∷ pos 11 ∷ pos 0 ∷ pos 30 ∷ [])) ∷
+    (given (pos 0 ∷ pos 11 ∷ pos 0 ∷ pos 30 ∷ pos 14 ∷ [])) ∷
     reading "date_difference" (pos 2021 ∷ pos 2 ∷ pos 28 ∷ pos 2020 ∷ pos 2 ∷ pos 29 ∷ pos 0 ∷ [])
-    (given (pos 0 ∷ negℤ (pos 11) ∷ pos 0 ∷ negℤ (pos 28) ∷ [])) ∷
+    (given (pos 0 ∷ negℤ (pos 11) ∷ pos 0 ∷ negℤ (pos 28) ∷ pos 14 ∷ [])) ∷
     reading "date_difference" (negℤ (pos 271821) ∷ pos 4 ∷ pos 19 ∷ pos 275760 ∷ pos 9 ∷ pos 13 ∷ pos 0 ∷ [])
-    (given (pos 547581 ∷ pos 4 ∷ pos 0 ∷ pos 25 ∷ [])) ∷
+    (given (pos 547581 ∷ pos 4 ∷ pos 0 ∷ pos 25 ∷ pos 8 ∷ [])) ∷
     reading "date_sum" (pos 2024 ∷ pos 1 ∷ pos 31 ∷ pos 0 ∷ pos 1 ∷ pos 0 ∷ pos 0 ∷ pos 0 ∷ []) (given (pos 2024 ∷ pos 2 ∷ pos 29 ∷ [])) ∷
     reading "date_sum" (pos 2024 ∷ pos 1 ∷ pos 31 ∷ pos 0 ∷ pos 1 ∷ pos 0 ∷ pos 0 ∷ pos 1 ∷ []) (refused 1) ∷ []

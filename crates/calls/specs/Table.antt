@@ -21,7 +21,7 @@ use Rattle.parameters.specs.Meaning.{at, natAt}
 use Rattle.parameters.specs.Parameters.{dateKinds, timeKinds, partsKinds, dateTimeKinds, durationKinds, choiceKinds, overflowKind, unitKind}
 use Rattle.parameters.specs.Parameters.{modeKind, roomKind, dateAt, timeAt, dateTimeAt, durationAt, partAt, overflowOf, unitOf, modeOf}
 use Rattle.replies.specs.Replies.{shown, noValues, naturalValue, wholeValue, dateValues, yearMonthValues, timeValues, balancedValues}
-use Rattle.replies.specs.Replies.{spanValues, durationValues, signValue, dateTimeValues, recordValues, shownText}
+use Rattle.replies.specs.Replies.{spanValues, durationValues, signValue, dateTimeValues, dateDifferenceValues, differenceValues, shownText}
 
 pub record Row : Type 0 where
   pub name : String
@@ -74,7 +74,7 @@ calls =
     row "date_sum" (dateKinds ++ (durationKinds ++ (overflowKind ∷ [])))
     (λ zs. shown dateValues (dateSum (dateAt zs 0) (durationAt zs 3) (overflowOf (at zs 7)))) ∷
     row "date_difference" (dateKinds ++ (dateKinds ++ (unitKind ∷ [])))
-    (λ zs. shown durationValues (dateDifference (dateAt zs 0) (dateAt zs 3) (unitOf (at zs 6)))) ∷
+    (λ zs. shown dateDifferenceValues (dateDifference (dateAt zs 0) (dateAt zs 3) (unitOf (at zs 6)))) ∷
     row "datetime_limits" dateTimeKinds
     (λ zs. shown noValues (dateTimeLimits (dateTimeAt zs 0))) ∷
     row "balance_datetime" (signed 32 ∷ signed 32 ∷ signed 64 ∷ partsKinds)
@@ -82,7 +82,7 @@ calls =
     row "round_datetime" (dateTimeKinds ++ (unitKind ∷ unsigned 64 ∷ modeKind ∷ []))
     (λ zs. shown dateTimeValues (roundDateTime (dateTimeAt zs 0) (unitOf (at zs 9)) (natAt zs 10) (modeOf (at zs 11)))) ∷
     row "datetime_difference" (dateTimeKinds ++ (dateTimeKinds ++ (unitKind ∷ [])))
-    (λ zs. shown recordValues (dateTimeDifference (dateTimeAt zs 0) (dateTimeAt zs 9) (unitOf (at zs 18)))) ∷
+    (λ zs. shown differenceValues (dateTimeDifference (dateTimeAt zs 0) (dateTimeAt zs 9) (unitOf (at zs 18)))) ∷
     row "datetime_from_instant" (signed 64 ∷ signed 64 ∷ signed 64 ∷ [])
     (λ zs. shown dateTimeValues (fromInstant (at zs 0) (at zs 1) (at zs 2))) ∷
     row "write_date" (dateKinds ++ (roomKind ∷ []))

@@ -1,9 +1,12 @@
+pub mod Counts
 pub mod Kept
 pub mod Most
 pub mod Order
+pub mod Pinned
 pub mod Places
 pub mod Rest
 pub mod Sums
 pub mod Theorems
 pub mod Steps
+pub mod Tries
 pub mod Until

@@ -1,25 +1,26 @@
 -- What the steps of the code do to naturals at their biases, over plain variables: the proofs of `inner` cite these.
-use Prim.Native.Nat.{ℕ, _+_, _-_, _*_, _/_, _%_, _^_, _≤_, _<_}
+use Prim.Native.Nat.{ℕ, zero, suc, _+_, _-_, _*_, _/_, _%_, _^_, _≤_, _<_}
 use native.Mathlib.Omega.{arith}
 use mathlib.Core.Path.{_≡_, refl, sym, _∙_, ap}
-use mathlib.Core.Bool.{Bool, true, false, cond}
-use borrow.Author.Tests.{eq-eqb, ne-eqb, le-leb, lt-leb}
-use lib.Dec.{eqb, leb}
+use mathlib.Core.Bool.{Bool, true, false, cond, _&&_, _||_}
+use borrow.Author.Tests.{eqb-true, eqb-false, ltb-true, ltb-false, eq-eqb, ne-eqb, le-leb, lt-leb, lt-ltb}
+use lib.Dec.{eqb, leb, ltb}
 use lib.ListN.{getD}
 use lib.IntN.{ℤ, pos, negℤ, natAbs, _+ℤ_, _-ℤ_, _*ℤ_}
 use mir.Syntax.{w32, w64}
 use mir.Val.{SFits}
 use Rattle.whole.specs.Whole.{_⊖_, clampZ}
 use Rattle.whole.proofs.Laws.{ints, whole, read-add, read-diff, read-times, size-of, range-of, fdiv-unique}
+use Rattle.whole.proofs.Tests.{one-of, neither}
 use Rattle.iso_date.specs.Proposal.{date, epochDays, monthLengths, leapYear, isoDaysInMonth, dayFromMonth, constrainISODate, clampTo}
 use Rattle.iso_date.specs.Inner.{yearBias, monthBias, dayBias, Balances}
 use Rattle.iso_date.proofs.Answers.{length-of-year, constrained-valid, day-of-date}
 use Rattle.iso_date.proofs.Dates.{read-valid}
 use Rattle.options.specs.declared.Unit.{Unit as TemporalUnit}
 use Rattle.options.specs.Units.{unitRank}
-use Rattle.date_math.specs.Proposal.{movedBy, directed, restStart}
+use Rattle.date_math.specs.Proposal.{movedBy, directed, restStart, countsYears, countsMonths}
 use Rattle.date_math.specs.Paper.{clampedYear}
-use Rattle.date_math.specs.Inner.{placeOf, placeBias, yearsIn, monthsIn, weeksIn}
+use Rattle.date_math.specs.Inner.{placeOf, placeBias, yearsIn, monthsIn, weeksIn, yearTriesIn, triesIn}
 use Rattle.date_math.proofs.Places.{directed-none}
 
 -- ---- a count with its sign
@@ -37,6 +38,11 @@ directed-is false n = refl
 
 -- ---- counts within a distance, by the unit's rank
 
+-- the years tried, between dates so many years apart
+pub few-tries : (gap years : ℕ) → (384 * years < gap + 384) × (gap < 384 * (years + 1)) → yearTriesIn gap years ≤ 3
+unfolding yearTriesIn
+few-tries gap years h = omega arith
+
 module _ (unit : TemporalUnit) (r : ℕ) (e : r ≡ unitRank unit) where
   pub weeks-yes : (n : ℕ) → r ≡ 2 → n / 7 ≡ weeksIn unit n
   unfolding weeksIn
@@ -46,12 +52,44 @@ module _ (unit : TemporalUnit) (r : ℕ) (e : r ≡ unitRank unit) where
   unfolding weeksIn
   weeks-no n h = let t : eqb (unitRank unit) 2 ≡ false = ne-eqb (unitRank unit) 2 (λ f. h (e ∙ f)) in rw t
 
-  pub none-tried : (gap : ℕ) → 1 < r → (0 ≡ yearsIn unit gap) × (0 ≡ monthsIn unit gap)
-  unfolding yearsIn monthsIn
-  none-tried gap h =
-      let s : eqb (unitRank unit) 0 ≡ false = ne-eqb (unitRank unit) 0 (λ f. let z : ⊥ = omega arith in z) in
-      let t : leb (unitRank unit) 1 ≡ false = lt-leb (unitRank unit) 1 (omega arith) in
-      (rw s, rw t)
+  pub none-tried : (gap years : ℕ) → (ltb 1 r || eqb gap 0) ≡ true →
+      ((0 ≡ yearsIn unit gap) × (0 ≡ monthsIn unit gap)) × ((384 * 0 + 32 * 0 ≤ gap) × (0 ≡ triesIn unit gap years))
+  unfolding yearsIn monthsIn triesIn
+  none-tried gap years h = one-of (ltb 1 r) (eqb gap 0) h small equal
+    where
+      small : ltb 1 r ≡ true → ((0 ≡ yearsIn unit gap) × (0 ≡ monthsIn unit gap)) × ((384 * 0 + 32 * 0 ≤ gap) × (0 ≡ triesIn unit gap years))
+      small l =
+          let g = ltb-true 1 r l in
+          let s : eqb (unitRank unit) 0 ≡ false = ne-eqb (unitRank unit) 0 (λ f. let z : ⊥ = omega arith in z) in
+          let t : leb (unitRank unit) 1 ≡ false = lt-leb (unitRank unit) 1 (omega arith) in
+          ((rw s, rw t), (omega arith, rw t))
+
+      none : (c d : Bool) → ((0 ≡ cond c (0 / 384) 0) × (0 ≡ cond d ((0 - 384 * cond c (0 / 384) 0) / 32) 0)) ×
+          ((384 * 0 + 32 * 0 ≤ 0) × (0 ≡ cond (d && ltb 0 0) (yearTriesIn 0 years + ((0 - 384 * (0 / 384)) / 32 + 1)) 0))
+      none true true = ((refl, refl), (omega arith, refl))
+      none true false = ((refl, refl), (omega arith, refl))
+      none false true = ((refl, refl), (omega arith, refl))
+      none false false = ((refl, refl), (omega arith, refl))
+
+      equal : eqb gap 0 ≡ true → ((0 ≡ yearsIn unit gap) × (0 ≡ monthsIn unit gap)) × ((384 * 0 + 32 * 0 ≤ gap) × (0 ≡ triesIn unit gap years))
+      equal l = rw (eqb-true gap 0 l) (none (countsYears unit) (countsMonths unit))
+
+  large : (gap : ℕ) → (ltb 1 r || eqb gap 0) ≡ false → r ≤ 1
+  large gap h = ltb-false 1 r (neither (ltb 1 r) (eqb gap 0) h .0)
+
+  -- where both are tried, the months after so many years
+  pub both-tried : (gap years found y m : ℕ) → (ltb 1 r || eqb gap 0) ≡ false → found ≡ gap / 384 → y ≡ yearTriesIn gap years →
+      m ≡ (gap - 384 * found) / 32 + 1 → y + m ≡ triesIn unit gap years
+  unfolding triesIn
+  both-tried gap years found y m h k f g =
+      let n = neither (ltb 1 r) (eqb gap 0) h in
+      let t : leb (unitRank unit) 1 ≡ true = le-leb (unitRank unit) 1 (omega (arith, large gap h)) in
+      let s : ltb 0 gap ≡ true = lt-ltb 0 gap (some gap (eqb-false gap 0 (n .1))) in
+      rw (t, s, f, g, k)
+    where
+      some : (n : ℕ) → (n ≡ 0 → ⊥) → 0 < n
+      some zero h = absurd (h refl)
+      some (suc n) h = omega arith
 
   pub years-tried : (gap y m : ℕ) → r ≡ 0 → y ≡ gap / 384 → m ≡ (gap - 384 * y) / 32 → (y ≡ yearsIn unit gap) × (m ≡ monthsIn unit gap)
   unfolding yearsIn monthsIn
@@ -61,12 +99,12 @@ module _ (unit : TemporalUnit) (r : ℕ) (e : r ≡ unitRank unit) where
       (rw s f, rw (s, t) (rw f at g))
 
   -- 12 months of 32 places are a year of 384
-  pub months-tried : (gap y m : ℕ) → r ≤ 1 → (r ≡ 0 → ⊥) → y ≡ gap / 384 → m ≡ (gap - 384 * y) / 32 →
+  pub months-tried : (gap y m : ℕ) → (ltb 1 r || eqb gap 0) ≡ false → (r ≡ 0 → ⊥) → y ≡ gap / 384 → m ≡ (gap - 384 * y) / 32 →
       (0 ≡ yearsIn unit gap) × (12 * y + m ≡ monthsIn unit gap)
   unfolding yearsIn monthsIn
   months-tried gap y m l h f g =
       let s : eqb (unitRank unit) 0 ≡ false = ne-eqb (unitRank unit) 0 (λ i. h (e ∙ i)) in
-      let t : leb (unitRank unit) 1 ≡ true = le-leb (unitRank unit) 1 (omega arith) in
+      let t : leb (unitRank unit) 1 ≡ true = le-leb (unitRank unit) 1 (omega (arith, large gap l)) in
       (rw s, rw (s, t) (omega arith))
 
 -- ---- places

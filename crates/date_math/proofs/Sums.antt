@@ -25,8 +25,9 @@ use Rattle.options.specs.declared.Overflow.{Overflow}
 use Rattle.options.specs.declared.Overflow.the-variants.{Constrain}
 use Rattle.options.specs.declared.Unit.{Unit as TemporalUnit}
 use Rattle.options.specs.Units.{unitRank}
-use Rattle.date_math.specs.Proposal.{movedBy, calendarDateUntil}
-use Rattle.date_math.specs.Paper.{clampedYear, sumSteps, dateSum, dateDifference}
+use Rattle.date_math.specs.Proposal.{movedBy}
+use Rattle.date_math.specs.Paper.{clampedYear, sumSteps, dateSum, differenceOfDates, dateDifference}
+use Rattle.date_math.specs.declared.DateDifference.{DateDifference}
 use Rattle.date_math.proofs.Order.{year-mono}
 
 -- ---- a date within the limits
@@ -161,8 +162,8 @@ module _ (one two : IsoDate) (unit : TemporalUnit) where
   unfolding dateDifference
   difference-unit rank e f g h = rw (← e, ← f, lt-leb (unitRank unit) 3 (omega arith))
 
-  pub difference-given : (rank : ℕ) (r : DateDuration) → given tt ≡ dateLimits one → given tt ≡ dateLimits two → rank ≡ unitRank unit → rank ≤ 3 →
-      r ≡ calendarDateUntil one two unit → given r ≡ dateDifference one two unit
+  pub difference-given : (rank : ℕ) (r : DateDifference) → given tt ≡ dateLimits one → given tt ≡ dateLimits two → rank ≡ unitRank unit → rank ≤ 3 →
+      r ≡ differenceOfDates one two unit → given r ≡ dateDifference one two unit
   unfolding dateDifference
   difference-given rank r e f g h k = rw (← e, ← f, le-leb (unitRank unit) 3 (omega arith), k)
 

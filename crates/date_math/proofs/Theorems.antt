@@ -23,7 +23,7 @@ use Rattle.options.specs.declared.Unit.{Unit as TemporalUnit}
 use Rattle.date_math.specs.Proposal.{directed, movedBy, inYears, restStart, countsYears, countsMonths, countsWeeks, calendarDateUntil}
 use Rattle.date_math.specs.Paper.{isDateUnit, dateSum, dateDifference}
 use Rattle.date_math.specs.Rules.{onTheWay, MeetsTheRules}
-use Rattle.date_math.specs.Claims.{Ahead, PartsAhead}
+use Rattle.date_math.specs.Claims.{durationIn, Ahead, PartsAhead}
 use Rattle.date_math.specs.Inner.{placeOf, yearsIn, monthsIn, weeksIn}
 use Rattle.date_math.proofs.Places.{later-place, place-years, place-moved, moved-proper, years-proper, directed-times, directed-add}
 use Rattle.date_math.proofs.Places.{directed-none, split-at}
@@ -365,7 +365,7 @@ parts-ahead forward one two unit v w h =
 module _ (one two : IsoDate) (unit : TemporalUnit) (one-valid : isValidISODate one ≡ true) (one-within : isoDateWithinLimits one ≡ true)
     (two-valid : isValidISODate two ≡ true) (two-within : isoDateWithinLimits two ≡ true) where
   -- the difference is always given
-  pub always-given : isDateUnit unit ≡ true → dateDifference one two unit ≡ given (calendarDateUntil one two unit)
+  pub always-given : isDateUnit unit ≡ true → durationIn (dateDifference one two unit) ≡ given (calendarDateUntil one two unit)
   unfolding dateDifference
   always-given u =
       rw (fine-limits one (fine one one-valid one-within), fine-limits two (fine two two-valid two-within), u)
@@ -385,7 +385,7 @@ module _ (one two : IsoDate) (unit : TemporalUnit) (one-valid : isValidISODate o
       in-some-direction one two (λ forward gap far. only-answer one two unit f g forward gap far r m ∙ sym (answer-is one two unit f g forward gap far))
 
   -- together, of what is given: it is a record just where that record meets the rules
-  pub demand-3 : isDateUnit unit ≡ true → (r : DateDuration) → (dateDifference one two unit ≡ given r) ↔ MeetsTheRules one two unit r
+  pub demand-3 : isDateUnit unit ≡ true → (r : DateDuration) → (durationIn (dateDifference one two unit) ≡ given r) ↔ MeetsTheRules one two unit r
   demand-3 u r = (
     (λ e. subst (λ (s : DateDuration). MeetsTheRules one two unit s) (given-inj (calendarDateUntil one two unit) r (sym (always-given u) ∙ e)) meets-the-rules),
     (λ m. always-given u ∙ ap given (sym (no-other r m))),

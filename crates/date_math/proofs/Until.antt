@@ -13,7 +13,7 @@ use Rattle.whole.specs.Whole.{apart, _⊖_}
 use Rattle.whole.proofs.Laws.{ints, size-of, whole, range-of, read-add, read-neg, read-times}
 use Rattle.whole.proofs.Tests.{alike}
 use Rattle.iso_date.specs.Proposal.{epochDays, epochDaysToISODate, isValidISODate}
-use Rattle.iso_date.specs.Inner.{yearBias, dayBias}
+use Rattle.iso_date.specs.Inner.{dayBias}
 use Rattle.iso_date.specs.declared.IsoDate.{IsoDate}
 use Rattle.iso_date.proofs.Dates.{back-valid, back-and-there}
 use Rattle.date_duration.specs.Proposal.{duration}
@@ -22,6 +22,7 @@ use Rattle.options.specs.declared.Unit.{Unit as TemporalUnit}
 use Rattle.date_math.specs.Proposal.{isLater, isoDateSurpasses, directed, movedBy, inYears, addDaysToISODate, yearsUntil, monthsUntil}
 use Rattle.date_math.specs.Proposal.{restStart, daysUntil, yearsFound, monthsFound, weeksFound, dateUntil, calendarDateUntil}
 use Rattle.date_math.specs.Proposal.{countsYears, countsMonths, countsWeeks}
+use Rattle.date_math.specs.Tries.{yearsApart}
 use Rattle.date_math.specs.Claims.{Ahead}
 use Rattle.date_math.specs.Inner.{placeOf, placeBias, yearsIn, monthsIn, weeksIn}
 use Rattle.date_math.proofs.Kept.{kept-is}
@@ -32,39 +33,33 @@ use Rattle.date_math.proofs.Rest.{rest-between, fold-years, distance-is
 
 -- ---- years and months
 
--- less than one year more than the years are apart
-pub gap-below : (forward : Bool) (y z : ℤ) (m d n e gap : ℕ) → (1 ≤ m) × (m ≤ 12) → d ≤ 31 → (1 ≤ n) × (n ≤ 12) → e ≤ 31 →
+-- less than one year from the years that they are apart, either way
+gap-bounds : (forward : Bool) (y z : ℤ) (m d n e gap : ℕ) → (1 ≤ m) × (m ≤ 12) → d ≤ 31 → (1 ≤ n) × (n ≤ 12) → e ≤ 31 →
     pos 384 *ℤ z +ℤ pos (32 * n + e) ≡ pos 384 *ℤ y +ℤ pos (32 * m + d) +ℤ directed forward gap →
-    gap < 384 * (natAbs (z -ℤ y) + 1)
-gap-below true y z m d n e gap a b c f h =
-    omega (
-      arith,
-      ints,
-      size-of (z -ℤ y),
-      read-add z (negℤ y),
-      read-neg y,
-      range-of (z -ℤ y),
-      read-times 384 y,
-      read-times 384 z,
-      read-add (pos 384 *ℤ z) (pos (32 * n + e)),
-      read-add (pos 384 *ℤ y) (pos (32 * m + d)),
-      read-add (pos 384 *ℤ y +ℤ pos (32 * m + d)) (pos gap),
-    )
-gap-below false y z m d n e gap a b c f h =
-    omega (
-      arith,
-      ints,
-      size-of (z -ℤ y),
-      read-add z (negℤ y),
-      read-neg y,
-      range-of (z -ℤ y),
-      read-times 384 y,
-      read-times 384 z,
-      read-add (pos 384 *ℤ z) (pos (32 * n + e)),
-      read-add (pos 384 *ℤ y) (pos (32 * m + d)),
-      read-neg (pos gap),
-      read-add (pos 384 *ℤ y +ℤ pos (32 * m + d)) (negℤ (pos gap)),
-    )
+    (384 * natAbs (z -ℤ y) < gap + 384) × (gap < 384 * (natAbs (z -ℤ y) + 1))
+gap-bounds true y z m d n e gap a b c f h =
+    let size = size-of (z -ℤ y) in
+    let range = range-of (z -ℤ y) in
+    let difference = read-add z (negℤ y) in
+    let back = read-neg y in
+    let year = read-times 384 y in
+    let other = read-times 384 z in
+    let first = read-add (pos 384 *ℤ y) (pos (32 * m + d)) in
+    let second = read-add (pos 384 *ℤ z) (pos (32 * n + e)) in
+    let on = read-add (pos 384 *ℤ y +ℤ pos (32 * m + d)) (pos gap) in
+    (omega (arith, ints), omega (arith, ints))
+gap-bounds false y z m d n e gap a b c f h =
+    let size = size-of (z -ℤ y) in
+    let range = range-of (z -ℤ y) in
+    let difference = read-add z (negℤ y) in
+    let back = read-neg y in
+    let year = read-times 384 y in
+    let other = read-times 384 z in
+    let first = read-add (pos 384 *ℤ y) (pos (32 * m + d)) in
+    let second = read-add (pos 384 *ℤ z) (pos (32 * n + e)) in
+    let on = read-add (pos 384 *ℤ y +ℤ pos (32 * m + d)) (negℤ (pos gap)) in
+    let turned = read-neg (pos gap) in
+    (omega (arith, ints), omega (arith, ints))
 
 less-test : (a b c : ℕ) → b ≤ a → ltb a (b + c) ≡ ltb (a - b) c
 less-test a b c h =
@@ -73,33 +68,83 @@ less-test a b c h =
 
 module _ (forward : Bool) (one two : IsoDate) (v : isValidISODate one ≡ true) (w : isValidISODate two ≡ true) (gap : ℕ)
     (far : placeOf two ≡ placeOf one +ℤ directed forward gap) where
-  pub within-years : gap < 384 * (natAbs (two .year -ℤ one .year) + 1)
+  pub years-near : (384 * yearsApart one two < gap + 384) × (gap < 384 * (yearsApart one two + 1))
   unfolding placeOf
-  within-years =
+  years-near =
       let p = valid-proper one v in
       let q = valid-proper two w in
-      gap-below forward (one .year) (two .year) (one .month) (one .day) (two .month) (two .day) gap (p .month-low, p .month-high) (p .day-high)
+      gap-bounds forward (one .year) (two .year) (one .month) (one .day) (two .month) (two .day) gap (p .month-low, p .month-high) (p .day-high)
       (q .month-low, q .month-high) (q .day-high) far
+
+  pub within-years : gap < 384 * (natAbs (two .year -ℤ one .year) + 1)
+  within-years = years-near .1
+
+  pub years-pass : (k : ℕ) → isoDateSurpasses forward (inYears one (directed forward k)) two ≡ ltb gap (384 * k)
+  years-pass k =
+      surpasses-is forward one two (inYears one (directed forward k)) gap (384 * k) (valid-proper two w)
+      (years-proper one (directed forward k) (valid-proper one v)) far
+      (place-years one (directed forward k) ∙ ap (λ (z : ℤ). placeOf one +ℤ z) (directed-times forward 384 k))
+
+  pub months-pass : (y : ℕ) → 384 * y ≤ gap → (k : ℕ) →
+      isoDateSurpasses forward (movedBy one (directed forward y) (directed forward k)) two ≡ ltb (gap - 384 * y) (32 * k)
+  months-pass y h k =
+      surpasses-is forward one two (movedBy one (directed forward y) (directed forward k)) gap (384 * y + 32 * k) (valid-proper two w)
+      (moved-proper one (directed forward y) (directed forward k) (valid-proper one v .day-high)) far (place-moved-on forward one y k) ∙
+      less-test gap (384 * y) (32 * k) h
 
   pub years-are : yearsUntil forward one two ≡ gap / 384
   unfolding yearsUntil
   years-are =
-      kept-is (λ k. isoDateSurpasses forward (inYears one (directed forward k)) two) 384 gap
-      (λ k.
-      surpasses-is forward one two (inYears one (directed forward k)) gap (384 * k) (valid-proper two w)
-      (years-proper one (directed forward k) (valid-proper one v)) far
-      (place-years one (directed forward k) ∙ ap (λ (z : ℤ). placeOf one +ℤ z) (directed-times forward 384 k)))
+      kept-is (λ k. isoDateSurpasses forward (inYears one (directed forward k)) two) 384 gap years-pass
       (natAbs (two .year -ℤ one .year) + 1) within-years
 
   pub months-are : (y : ℕ) → 384 * y ≤ gap → monthsUntil forward one two y ≡ (gap - 384 * y) / 32
   unfolding monthsUntil
   months-are y h =
-      kept-is (λ k. isoDateSurpasses forward (movedBy one (directed forward y) (directed forward k)) two) 32 (gap - 384 * y)
-      (λ k.
-      surpasses-is forward one two (movedBy one (directed forward y) (directed forward k)) gap (384 * y + 32 * k) (valid-proper two w)
-      (moved-proper one (directed forward y) (directed forward k) (valid-proper one v .day-high)) far (place-moved-on forward one y k) ∙
-      less-test gap (384 * y) (32 * k) h)
+      kept-is (λ k. isoDateSurpasses forward (movedBy one (directed forward y) (directed forward k)) two) 32 (gap - 384 * y) (months-pass y h)
       (12 * (natAbs (two .year -ℤ one .year) + 1)) (omega (arith, within-years))
+
+  -- in the direction of the gap, if there is one
+  pub sign-is : 0 < gap → (isLater two one ≡ forward) × (isLater one two ≡ not forward)
+  sign-is h =
+      let p = valid-proper one v in
+      let q = valid-proper two w in
+      let s = go forward (placeOf one) (placeOf two) far in
+      (later-place two one q p ∙ s .0, later-place one two p q ∙ s .1)
+    where
+      go : (f : Bool) (a b : ℤ) → b ≡ a +ℤ directed f gap → (ltZ a b ≡ f) × (ltZ b a ≡ not f)
+      go true a b e = (omega (arith, ints, read-add a (pos gap)), omega (arith, ints, read-add a (pos gap)))
+      go false a b e = (
+        omega (arith, ints, read-neg (pos gap), read-add a (negℤ (pos gap))),
+        omega (arith, ints, read-neg (pos gap), read-add a (negℤ (pos gap))),
+      )
+
+  pub no-sign : gap ≡ 0 → (isLater two one ≡ false) × (isLater one two ≡ false)
+  no-sign h =
+      let p = valid-proper one v in
+      let q = valid-proper two w in
+      let s = go forward (placeOf one) (placeOf two) far in
+      (later-place two one q p ∙ s .0, later-place one two p q ∙ s .1)
+    where
+      go : (f : Bool) (a b : ℤ) → b ≡ a +ℤ directed f gap → (ltZ a b ≡ false) × (ltZ b a ≡ false)
+      go true a b e = (omega (arith, ints, read-add a (pos gap)), omega (arith, ints, read-add a (pos gap)))
+      go false a b e = (
+        omega (arith, ints, read-neg (pos gap), read-add a (negℤ (pos gap))),
+        omega (arith, ints, read-neg (pos gap), read-add a (negℤ (pos gap))),
+      )
+
+  -- one of two things, by the direction, or a third where there is none
+  pub chosen : {A : Type 0} (g : Bool → A) (z : A) → cond (isLater two one) (g true) (cond (isLater one two) (g false) z) ≡ cond (ltb 0 gap) (g forward) z
+  chosen g z = go (ltb 0 gap) refl
+    where
+      some : {A : Type 0} (g : Bool → A) (z : A) (f : Bool) → isLater two one ≡ f → isLater one two ≡ not f →
+          cond (isLater two one) (g true) (cond (isLater one two) (g false) z) ≡ g f
+      some g z true e h = rw e
+      some g z false e h = rw (e, h)
+
+      go : (t : Bool) → ltb 0 gap ≡ t → cond (isLater two one) (g true) (cond (isLater one two) (g false) z) ≡ cond t (g forward) z
+      go true e = let s = sign-is (ltb-true 0 gap e) in some g z forward (s .0) (s .1)
+      go false e = let s = no-sign (omega (arith, ltb-false 0 gap e)) in rw (s .0, s .1)
 
 -- ---- what is found under a unit
 
@@ -194,40 +239,12 @@ module _ (forward : Bool) (one two : IsoDate) (unit : TemporalUnit) (v : isValid
   unfolding dateUntil
   until-is = rw (years-found, months-found, weeks-found, days-found)
 
-  -- in the direction of the gap, if there is one
-  sign-is : 0 < gap → (isLater two one ≡ forward) × (isLater one two ≡ not forward)
-  sign-is h =
-      let p = valid-proper one v in
-      let q = valid-proper two w in
-      let s = go forward (placeOf one) (placeOf two) far in
-      (later-place two one q p ∙ s .0, later-place one two p q ∙ s .1)
-    where
-      go : (f : Bool) (a b : ℤ) → b ≡ a +ℤ directed f gap → (ltZ a b ≡ f) × (ltZ b a ≡ not f)
-      go true a b e = (omega (arith, ints, read-add a (pos gap)), omega (arith, ints, read-add a (pos gap)))
-      go false a b e = (
-        omega (arith, ints, read-neg (pos gap), read-add a (negℤ (pos gap))),
-        omega (arith, ints, read-neg (pos gap), read-add a (negℤ (pos gap))),
-      )
-
-  no-sign : gap ≡ 0 → (isLater two one ≡ false) × (isLater one two ≡ false)
-  no-sign h =
-      let p = valid-proper one v in
-      let q = valid-proper two w in
-      let s = go forward (placeOf one) (placeOf two) far in
-      (later-place two one q p ∙ s .0, later-place one two p q ∙ s .1)
-    where
-      go : (f : Bool) (a b : ℤ) → b ≡ a +ℤ directed f gap → (ltZ a b ≡ false) × (ltZ b a ≡ false)
-      go true a b e = (omega (arith, ints, read-add a (pos gap)), omega (arith, ints, read-add a (pos gap)))
-      go false a b e = (
-        omega (arith, ints, read-neg (pos gap), read-add a (negℤ (pos gap))),
-        omega (arith, ints, read-neg (pos gap), read-add a (negℤ (pos gap))),
-      )
-
   nothing-left : gap ≡ 0 → rest ≡ 0
   nothing-left h =
       let b = rest-between forward one two v w gap (yearsIn unit gap) (monthsIn unit gap) far (months-within unit gap) in
+      let none = no-sign forward one two v w gap far h in
       go forward (epochDays one) (epochDays (restStart forward one (yearsIn unit gap) (monthsIn unit gap))) (epochDays two) (b .0) (b .1)
-      (sym (later-day two one w v) ∙ no-sign h .0) (sym (later-day one two v w) ∙ no-sign h .1) left
+      (sym (later-day two one w v) ∙ none .0) (sym (later-day one two v w) ∙ none .1) left
     where
       go : (f : Bool) (a s b : ℤ) → Ahead f a s → Ahead f s b → ltZ a b ≡ false → ltZ b a ≡ false → b ≡ s +ℤ directed f rest → rest ≡ 0
       go true a s b k l m n e = omega (arith, ints, read-add s (pos rest))
@@ -235,29 +252,20 @@ module _ (forward : Bool) (one two : IsoDate) (unit : TemporalUnit) (v : isValid
 
   pub difference-is : calendarDateUntil one two unit ≡ closed forward unit gap rest
   unfolding calendarDateUntil
-  difference-is = go (ltb 0 gap) refl
+  difference-is = chosen forward one two v w gap far (λ f. dateUntil f one two unit) (duration (pos 0) (pos 0) (pos 0) (pos 0)) ∙ go (ltb 0 gap) refl
     where
       zeros : (f : Bool) (y m w d : ℕ) → y ≡ 0 → m ≡ 0 → w ≡ 0 → d ≡ 0 →
           duration (pos 0) (pos 0) (pos 0) (pos 0) ≡ duration (directed f y) (directed f m) (directed f w) (directed f d)
       zeros true y m w d a b c e = rw (a, b, c, e)
       zeros false y m w d a b c e = rw (a, b, c, e)
 
-      some : (f : Bool) → isLater two one ≡ f → isLater one two ≡ not f →
-          cond (isLater two one) (dateUntil true one two unit) (cond (isLater one two) (dateUntil false one two unit)
-          (duration (pos 0) (pos 0) (pos 0) (pos 0))) ≡
-          dateUntil f one two unit
-      some true e g = rw e
-      some false e g = rw (e, g)
-
-      go : (t : Bool) → ltb 0 gap ≡ t → calendarDateUntil one two unit ≡ closed forward unit gap rest
-      go true e = let s = sign-is (ltb-true 0 gap e) in some forward (s .0) (s .1) ∙ until-is
+      go : (t : Bool) → ltb 0 gap ≡ t → cond t (dateUntil forward one two unit) (duration (pos 0) (pos 0) (pos 0) (pos 0)) ≡ closed forward unit gap rest
+      go true e = until-is
       go false e =
           let z : gap ≡ 0 = omega (arith, ltb-false 0 gap e) in
-          let s = no-sign z in
           let n = nothing-left z in
-          rw (s .0, s .1)
-          (zeros forward (yearsIn unit gap) (monthsIn unit gap) (weeksIn unit rest) (rest - 7 * weeksIn unit rest)
-          (omega (arith, months-within unit gap)) (omega (arith, months-within unit gap)) (omega (arith, weeks-within unit rest)) (omega arith))
+          zeros forward (yearsIn unit gap) (monthsIn unit gap) (weeksIn unit rest) (rest - 7 * weeksIn unit rest)
+          (omega (arith, months-within unit gap)) (omega (arith, months-within unit gap)) (omega (arith, weeks-within unit rest)) (omega arith)
 
 -- ---- from the naturals of the code
 
@@ -275,23 +283,6 @@ left-of true s t B p q e f h =
 left-of false s t B p q e f h =
     let l : t ≤ s = omega (arith, simp whole at (rw (e, f) at h)) in
     rw (e, f) (simp whole (omega arith))
-
--- a place is 384 times its year and what is left
-place-up : (d : IsoDate) (a u : ℕ) → placeOf d ≡ a ⊖ placeBias → d .year ≡ u ⊖ yearBias → a ≡ 384 * u + (32 * (d .month) + (d .day))
-unfolding placeOf
-place-up d a u e f = go (d .year) (32 * (d .month) + (d .day)) e f
-  where
-    go : (y : ℤ) (k : ℕ) → pos 384 *ℤ y +ℤ pos k ≡ a ⊖ placeBias → y ≡ u ⊖ yearBias → a ≡ 384 * u + k
-    go y k e f = omega (arith, simp whole at (rw f at e))
-
--- the years that dates are apart, against their gap
-pub years-near : (one two : IsoDate) (a b u v : ℕ) → isValidISODate one ≡ true → isValidISODate two ≡ true →
-    placeOf one ≡ a ⊖ placeBias → placeOf two ≡ b ⊖ placeBias → one .year ≡ u ⊖ yearBias → two .year ≡ v ⊖ yearBias →
-    384 * apart u v < apart a b + 384
-years-near one two a b u v p q e f g h =
-    let x = valid-proper one p in
-    let y = valid-proper two q in
-    omega (arith, place-up one a u e g, place-up two b v f h, x .month-low, x .month-high, x .day-high, y .month-low, y .month-high, y .day-high)
 
 module _ (one two : IsoDate) (unit : TemporalUnit) (v : isValidISODate one ≡ true) (w : isValidISODate two ≡ true)
     (a b y m s t rest k : ℕ) (from : placeOf one ≡ a ⊖ placeBias) (to : placeOf two ≡ b ⊖ placeBias)

@@ -1,12 +1,19 @@
--- What is said of the difference of two dates beyond the rules: every part has the direction in which the second date lies.
+-- What is said of the difference of two dates beyond the rules: every part has the direction in which the second date lies. And the word
+-- by which the rules speak of an answer that has a count as well.
 use Prim.Native.Nat.{ℕ}
 use mathlib.Core.Path.{_≡_}
 use mathlib.Core.Bool.{Bool, true, false}
 use lib.IntN.{ℤ}
 use lib.Signed.{_≤ℤ_}
+use Rattle.refusal.specs.Answer.{Answer, given, andThen}
 use Rattle.date_duration.specs.Proposal.{duration}
 use Rattle.date_duration.specs.declared.DateDuration.{DateDuration}
 use Rattle.date_math.specs.Proposal.{directed}
+use Rattle.date_math.specs.declared.DateDifference.{DateDifference}
+
+-- the duration in an answer; a refusal has none
+abbrev pub durationIn : Answer DateDifference → Answer DateDuration
+durationIn a = andThen a (λ d. given (d .duration))
 
 -- b is not behind a, seen in the direction
 abbrev pub Ahead : Bool → ℤ → ℤ → Type 0

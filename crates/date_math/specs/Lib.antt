@@ -3,3 +3,4 @@ pub mod Inner
 pub mod Paper
 pub mod Proposal
 pub mod Rules
+pub mod Tries

@@ -3,7 +3,7 @@ use Prim.Native.Nat.{_^_, _-_}
 use mathlib.Core.Bool.{Bool}
 use lib.Dec.{leb}
 use lib.IntN.{ℤ, pos, negℤ, _+ℤ_, _*ℤ_}
-use Rattle.refusal.specs.Answer.{Answer, given, check, andThen}
+use Rattle.refusal.specs.Answer.{Answer, given, refused, check, andThen}
 use Rattle.whole.specs.Whole.{clampZ}
 use Rattle.iso_date.specs.Proposal.{date, epochDays}
 use Rattle.iso_date.specs.Paper.{dateLimits, makeDate, dayToDate}
@@ -14,6 +14,10 @@ use Rattle.options.specs.declared.Overflow.{Overflow}
 use Rattle.options.specs.declared.Unit.{Unit as TemporalUnit}
 use Rattle.options.specs.Units.{unitRank}
 use Rattle.date_math.specs.Proposal.{movedBy, calendarDateUntil}
+use Rattle.date_math.specs.Tries.{calendarDateTries}
+use Rattle.date_math.specs.declared.DateDifference.{DateDifference}
+use Rattle.date_math.specs.declared.DateDifferenceResult.{DateDifferenceResult}
+use Rattle.date_math.specs.declared.DateDifferenceResult.the-variants as R
 
 -- ---- the sum
 
@@ -37,6 +41,15 @@ dateSum d t overflow = andThen (dateLimits d) (λ _. check (isValidDuration t) 8
 abbrev pub isDateUnit : TemporalUnit → Bool
 isDateUnit unit = leb (unitRank unit) 3
 
-unfoldable pub dateDifference : IsoDate → IsoDate → TemporalUnit → Answer DateDuration
+-- the duration, and beside it how many candidates were tried
+abbrev pub differenceOfDates : IsoDate → IsoDate → TemporalUnit → DateDifference
+differenceOfDates one two unit = record { duration = calendarDateUntil one two unit; tries = calendarDateTries one two unit }
+
+-- the enum's cases as number and values
+abbrev pub ofDateDifference : DateDifferenceResult → Answer DateDifference
+ofDateDifference (R.Difference d) = given d
+ofDateDifference (R.Refused n) = refused n
+
+unfoldable pub dateDifference : IsoDate → IsoDate → TemporalUnit → Answer DateDifference
 dateDifference one two unit =
-    andThen (dateLimits one) (λ _. andThen (dateLimits two) (λ _. check (isDateUnit unit) 5 (given (calendarDateUntil one two unit))))
+    andThen (dateLimits one) (λ _. andThen (dateLimits two) (λ _. check (isDateUnit unit) 5 (given (differenceOfDates one two unit))))

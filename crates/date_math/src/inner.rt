@@ -1,6 +1,7 @@
 // The steps of the sum and of the difference, on naturals. A triple of year, month and day is one number here, its place: 32 days to a
 // month and 12 months to a year, so that a day that its month does not have keeps its place, a month further is 32 places and a year
 // further 384.
+use crate::DateDifference;
 use date_duration::DateDuration;
 use iso_date::DateResult;
 use iso_date::IsoDate;
@@ -26,9 +27,9 @@ ghost use Rattle.iso_date.specs.Proposal.{isValidISODate, epochDays};
 ghost use Rattle.iso_date.specs.Paper.{ofDate, regulateDate};
 ghost use Rattle.iso_date.specs.Inner.{dayBias};
 ghost use Rattle.date_duration.specs.Proposal.{duration};
-ghost use Rattle.date_math.specs.Proposal.{movedBy, directed, restStart, calendarDateUntil};
-ghost use Rattle.date_math.specs.Paper.{clampedYear};
-ghost use Rattle.date_math.specs.Inner.{placeOf, placeBias, yearsIn, monthsIn, weeksIn};
+ghost use Rattle.date_math.specs.Proposal.{movedBy, directed, restStart};
+ghost use Rattle.date_math.specs.Paper.{clampedYear, differenceOfDates};
+ghost use Rattle.date_math.specs.Inner.{placeOf, placeBias, yearsIn, monthsIn, weeksIn, yearTriesIn, triesIn};
 
 const PLACES_PER_MONTH: u64 = 32;
 
@@ -58,67 +59,92 @@ pub fn place(date: IsoDate) -> u64
     PLACES_PER_YEAR * year_up(date.year) + PLACES_PER_MONTH * date.month as u64 + date.day as u64
 }
 
+// The count that a trial keeps, and how many candidates were compared to find it.
+pub struct Kept {
+    pub count: u64,
+    pub tries: u8,
+}
+
 // The most years within a gap of places. The candidates are tried from one less than the years that the dates are apart, which cannot
 // have passed.
-fn kept_years(gap: u64, years: u64) -> u64
-    requires { ⌜ (384 * years < gap + 384) × (gap < 2 ^ 42) ⌝ }
-    ensures { λ r. ⌜ r ≡ gap / 384 ⌝ }
+fn kept_years(gap: u64, apart: u64) -> Kept
+    requires { ⌜ ((384 * apart < gap + 384) × (gap < 384 * (apart + 1))) × (gap < 2 ^ 42) ⌝ }
+    ensures { λ r. ⌜ (r .count ≡ gap / 384) × (r .tries ≡ yearTriesIn gap apart) ⌝ }
 {
-    let mut candidate = years;
+    let mut candidate = apart;
     if candidate != 0 {
         candidate -= 1;
     }
-    loop {
+    let mut tries = 0;
+    let years = loop {
+        tries += 1;
         if gap < PLACES_PER_YEAR * candidate {
             break candidate - 1;
         }
         candidate += 1;
+    };
+    Kept {
+        count: years,
+        tries,
     }
 }
 
 // The most months within a gap that is less than a year. The candidates are tried from one on.
-fn kept_months(gap: u64) -> u64
+fn kept_months(gap: u64) -> Kept
     requires { ⌜ gap < 384 ⌝ }
-    ensures { λ r. ⌜ r ≡ gap / 32 ⌝ }
+    ensures { λ r. ⌜ (r .count ≡ gap / 32) × (r .tries ≡ gap / 32 + 1) ⌝ }
 {
     let mut candidate = 1;
-    loop {
+    let mut tries = 0;
+    let months = loop {
+        tries += 1;
         if gap < PLACES_PER_MONTH * candidate {
             break candidate - 1;
         }
         candidate += 1;
+    };
+    Kept {
+        count: months,
+        tries,
     }
 }
 
-// What the trial of years and months found.
+// What the trial of years and months found, and how many candidates it compared.
 pub struct Trial {
     pub years: u64,
     pub months: u64,
+    pub tries: u8,
 }
 
-// The years and months within a gap of places between dates that are so many years apart. Under month the years join the months.
-fn years_and_months(unit: Unit, gap: u64, years: u64) -> Trial
-    requires { ⌜ (384 * years < gap + 384) × (gap < 2 ^ 42) ⌝ }
-    ensures { λ r. ⌜ ((r .years ≡ yearsIn unit gap) × (r .months ≡ monthsIn unit gap)) × (384 * (r .years) + 32 * (r .months) ≤ gap) ⌝ }
+// The years and months within a gap of places between dates that are so many years apart. Under month the years join the months. Between
+// equal dates and under a smaller unit nothing is tried.
+fn years_and_months(unit: Unit, gap: u64, apart: u64) -> Trial
+    requires { ⌜ ((384 * apart < gap + 384) × (gap < 384 * (apart + 1))) × (gap < 2 ^ 42) ⌝ }
+    ensures { λ r. ⌜ ((r .years ≡ yearsIn unit gap) × (r .months ≡ monthsIn unit gap)) ×
+        ((384 * (r .years) + 32 * (r .months) ≤ gap) × (r .tries ≡ triesIn unit gap apart)) ⌝ }
 {
     let rank = unit.rank();
-    if rank > MONTH_RANK {
+    if (rank > MONTH_RANK) | (gap == 0) {
         return Trial {
             years: 0,
             months: 0,
+            tries: 0,
         };
     }
-    let found = kept_years(gap, years);
-    let months = kept_months(gap - PLACES_PER_YEAR * found);
+    let years = kept_years(gap, apart);
+    let months = kept_months(gap - PLACES_PER_YEAR * years.count);
+    let tries = years.tries + months.tries;
     if rank == YEAR_RANK {
         return Trial {
-            years: found,
-            months,
+            years: years.count,
+            months: months.count,
+            tries,
         };
     }
     Trial {
         years: 0,
-        months: 12 * found + months,
+        months: 12 * years.count + months.count,
+        tries,
     }
 }
 
@@ -174,17 +200,20 @@ fn parts(forward: bool, found: Trial, weeks: u64, days: u64) -> DateDuration
 }
 
 // The difference of two dates whose fields are valid.
-pub fn difference(one: IsoDate, two: IsoDate, unit: Unit) -> DateDuration
+pub fn difference(one: IsoDate, two: IsoDate, unit: Unit) -> DateDifference
     requires { ⌜ (isValidISODate one ≡ true) × (isValidISODate two ≡ true) ⌝ }
-    ensures { λ r. ⌜ r ≡ calendarDateUntil one two unit ⌝ }
+    ensures { λ r. ⌜ r ≡ differenceOfDates one two unit ⌝ }
 {
     let from = place(one);
     let to = place(two);
     let forward = from <= to;
-    let years = abs_diff(year_up(one.year), year_up(two.year));
-    let found = years_and_months(unit, abs_diff(from, to), years);
+    let apart = abs_diff(year_up(one.year), year_up(two.year));
+    let found = years_and_months(unit, abs_diff(from, to), apart);
     let start = rest_start(one, forward, 12 * found.years + found.months);
     let rest = abs_diff(start, day_up(two));
     let weeks = weeks_of(unit, rest);
-    parts(forward, found, weeks, rest - 7 * weeks)
+    DateDifference {
+        duration: parts(forward, found, weeks, rest - 7 * weeks),
+        tries: found.tries,
+    }
 }

@@ -1,7 +1,7 @@
 -- The difference of two records, their days and times adjusted, and how its answers come out of the checks.
 use Prim.Native.Nat.{ℕ, _+_, _-_, _*_, _^_, _≤_, _<_, min, max}
 use native.Mathlib.Omega.{arith}
-use mathlib.Core.Path.{_≡_, sym, _∙_, ap, ap₂}
+use mathlib.Core.Path.{_≡_, refl, sym, _∙_, ap, ap₂}
 use mathlib.Core.Bool.{Bool, true, false, cond, _&&_}
 use borrow.Author.Tests.{leb-true, le-leb, lt-leb}
 use lib.Dec.{leb}
@@ -23,13 +23,17 @@ use Rattle.date_duration.specs.Proposal.{duration}
 use Rattle.date_duration.specs.declared.DateDuration.{DateDuration}
 use Rattle.options.specs.declared.Unit.{Unit as TemporalUnit}
 use Rattle.options.specs.Units.{unitRank, nsPerDay}
+use Rattle.options.specs.declared.Unit.the-variants as U
 use Rattle.date_math.specs.Proposal.{directed, calendarDateUntil}
+use Rattle.date_math.specs.Tries.{calendarDateTries}
 use Rattle.date_math.proofs.Places.{directed-times, directed-add}
-use Rattle.iso_date_time.specs.Proposal.{movedDays, timeLeft, differenceISODateTime}
-use Rattle.iso_date_time.specs.Paper.{dateTimeLimits, dateTimeDifference}
+use Rattle.date_math.proofs.Tries.{none-below}
+use Rattle.iso_date_time.specs.Proposal.{movedDays, movedDate, timeLeft, differenceISODateTime}
+use Rattle.iso_date_time.specs.Paper.{dateTimeLimits, differenceTries, differenceOfRecords, dateTimeDifference}
 use Rattle.iso_date_time.specs.Inner.{Adjusts}
 use Rattle.iso_date_time.specs.declared.IsoDateTime.{IsoDateTime}
 use Rattle.iso_date_time.specs.declared.InternalDurationRecord.{InternalDurationRecord}
+use Rattle.iso_date_time.specs.declared.DateTimeDifference.{DateTimeDifference}
 use Rattle.iso_date_time.proofs.Moments.{Fine}
 use Rattle.iso_date_time.proofs.Adjusted.{moved-days-is, day-difference}
 
@@ -44,7 +48,7 @@ fine-day r f =
 -- where the second date is moved to, and the time that is then left
 pub record Placed (one two : IsoDateTime) (p day : ℕ) (forward : Bool) (ns : ℕ) : Type 0 where
   pub day-low : dayBias - 100000001 ≤ day
-  pub day-high : day ≤ dayBias + 100000001
+  pub day-high : day ≤ dayBias + 100000000
   pub near : apart p day < 2 ^ 40
   pub moved-is : epochDays (two .date) +ℤ movedDays one two ≡ day ⊖ dayBias
   pub days-are : (day ⊖ dayBias) -ℤ epochDays (one .date) ≡ directed forward (apart p day)
@@ -135,6 +139,22 @@ module _ (one two : IsoDateTime) (unit : TemporalUnit) (p day : ℕ) (forward : 
       rw (lt-leb (unitRank unit) 3 (omega arith), le-leb 4 (unitRank unit) (omega arith), t .moved-is, t .left-are, dates, days, together forward n ns)
       (ap (both-parts (duration (pos 0) (pos 0) (pos 0) (pos 0))) e)
 
+  -- the candidates are those of the dates' difference ..
+  pub dates-tried : (n : ℕ) → rank ≤ 3 → n ≡ calendarDateTries (one .date) (epochDaysToISODate (day ⊖ dayBias)) unit → n ≡ differenceTries one two unit
+  unfolding differenceTries
+  dates-tried n h e = rw (le-leb (unitRank unit) 3 (omega arith), t .moved-is) e
+
+-- .. and below the day there are none
+pub none-tried : (one two : IsoDateTime) (unit : TemporalUnit) (rank : ℕ) → rank ≡ unitRank unit → 3 < rank → 0 ≡ differenceTries one two unit
+unfolding differenceTries
+none-tried one two unit rank is h = rw (lt-leb (unitRank unit) 3 (omega arith)) (sym (none-below (one .date) (movedDate one two) U.Day refl))
+
+abbrev counted : InternalDurationRecord → ℕ → DateTimeDifference
+counted d n = record { duration = d; tries = n }
+
+pub with-tries : (d e : InternalDurationRecord) (n k : ℕ) → d ≡ e → n ≡ k → counted d n ≡ counted e k
+with-tries d e n k p q = rw (p, q)
+
 -- ---- one law for each way through the checks
 
 module _ (one two : IsoDateTime) (unit : TemporalUnit) where
@@ -146,7 +166,7 @@ module _ (one two : IsoDateTime) (unit : TemporalUnit) where
   unfolding dateTimeDifference
   second-refused n e f = rw (← e, ← f)
 
-  pub both-given : (r : InternalDurationRecord) → given tt ≡ dateTimeLimits one → given tt ≡ dateTimeLimits two → r ≡ differenceISODateTime one two unit →
-      given r ≡ dateTimeDifference one two unit
+  pub both-given : (r : DateTimeDifference) → given tt ≡ dateTimeLimits one → given tt ≡ dateTimeLimits two →
+      r ≡ differenceOfRecords one two unit → given r ≡ dateTimeDifference one two unit
   unfolding dateTimeDifference
   both-given r e f g = rw (← e, ← f, g)

@@ -4,7 +4,7 @@ use Rattle.refusal.specs.Answer.{Answer, given, refused}
 use Rattle.refusal.proofs.Answers.{one-result}
 use Rattle.iso_date_time.specs.Paper.{ofDateTime, ofDifference}
 use Rattle.iso_date_time.specs.declared.IsoDateTime.{IsoDateTime}
-use Rattle.iso_date_time.specs.declared.InternalDurationRecord.{InternalDurationRecord}
+use Rattle.iso_date_time.specs.declared.DateTimeDifference.{DateTimeDifference}
 use Rattle.iso_date_time.specs.declared.DateTimeResult.{DateTimeResult}
 use Rattle.iso_date_time.specs.declared.DateTimeResult.the-variants as V0
 use Rattle.iso_date_time.specs.declared.DifferenceResult.{DifferenceResult}
@@ -21,7 +21,7 @@ record-back (V0.Refused n) = refl
 pub one-record : (a : Answer IsoDateTime) (r s : DateTimeResult) → ofDateTime r ≡ a → ofDateTime s ≡ a → r ≡ s
 one-record = one-result ofDateTime to-record record-back
 
-abbrev to-difference : Answer InternalDurationRecord → DifferenceResult
+abbrev to-difference : Answer DateTimeDifference → DifferenceResult
 to-difference (given x) = V1.Difference x
 to-difference (refused n) = V1.Refused n
 
@@ -29,5 +29,5 @@ difference-back : (r : DifferenceResult) → to-difference (ofDifference r) ≡ 
 difference-back (V1.Difference x) = refl
 difference-back (V1.Refused n) = refl
 
-pub one-difference : (a : Answer InternalDurationRecord) (r s : DifferenceResult) → ofDifference r ≡ a → ofDifference s ≡ a → r ≡ s
+pub one-difference : (a : Answer DateTimeDifference) (r s : DifferenceResult) → ofDifference r ≡ a → ofDifference s ≡ a → r ≡ s
 one-difference = one-result ofDifference to-difference difference-back

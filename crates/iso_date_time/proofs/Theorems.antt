@@ -14,6 +14,7 @@ use Rattle.whole.specs.Whole.{apart, _⊖_}
 use Rattle.whole.proofs.Laws.{whole, ints, parts, split, read-add, read-neg, read-diff}
 use Rattle.whole.proofs.Edges.{raised-is}
 use Rattle.iso_date.specs.Proposal.{epochDays, epochDaysToISODate, isValidISODate}
+use Rattle.iso_date.specs.Paper.{dateLimits}
 use Rattle.iso_date.specs.Inner.{dayBias}
 use Rattle.iso_date.proofs.Dates.{back-valid, back-and-there}
 use Rattle.iso_time.specs.Proposal.{nanoseconds, inSeconds, isValidTime, validIncrement, roundTime}
@@ -28,17 +29,22 @@ use Rattle.options.specs.declared.Unit.{Unit as TemporalUnit}
 use Rattle.options.specs.declared.Unit.the-variants as U
 use Rattle.options.specs.Units.{unitRank, nsPerDay}
 use Rattle.date_math.specs.Proposal.{directed}
+use Rattle.date_math.specs.Paper.{isDateUnit, differenceOfDates, dateDifference}
 use Rattle.date_math.specs.Claims.{Ahead}
+use Rattle.date_math.specs.declared.DateDifference.{DateDifference}
+use Rattle.date_math.proofs.Sums.{fine-limits}
 use Rattle.date_math.proofs.Theorems.{parts-ahead}
-use Rattle.iso_date_time.specs.Proposal.{epochNanoseconds, isoDateTimeWithinLimits, roundISODateTime, movedDays, timeLeft, atLeastDay}
+use Rattle.date_math.proofs.Counts.{at-most-15}
+use Rattle.iso_date_time.specs.Proposal.{epochNanoseconds, isoDateTimeWithinLimits, roundISODateTime, movedDays, movedDate, timeLeft, atLeastDay}
 use Rattle.iso_date_time.specs.Proposal.{belowDay, joined, differenceISODateTime}
-use Rattle.iso_date_time.specs.Paper.{dateTimeLimits, roundDateTime, dateTimeDifference}
+use Rattle.iso_date_time.specs.Paper.{dateTimeLimits, roundDateTime, differenceTries, differenceOfRecords, dateTimeDifference}
 use Rattle.iso_date_time.specs.Inner.{Adjusts}
 use Rattle.iso_date_time.specs.Claims.{exactly, OneWay}
 use Rattle.iso_date_time.specs.declared.IsoDateTime.{IsoDateTime}
+use Rattle.iso_date_time.specs.declared.DateTimeDifference.{DateTimeDifference}
 use Rattle.iso_date_time.proofs.Moments.{Fine, limits-fine, check-passed}
 use Rattle.iso_date_time.proofs.Adjusted.{in-seconds-is, adjusted-down, adjusted-ahead, adjusted-up, adjusted-behind, adjusted-here, day-difference}
-use Rattle.iso_date_time.proofs.Differences.{Placed, fine-day, placed, dates-and-time, time-alone}
+use Rattle.iso_date_time.proofs.Differences.{Placed, fine-day, placed, dates-and-time, time-alone, none-tried}
 
 -- ---- the exact nanoseconds of an answer's days and time
 
@@ -88,6 +94,22 @@ ahead-by : (forward : Bool) (x y : ℤ) (n : ℕ) → y -ℤ x ≡ directed forw
 ahead-by true x y n e = omega (arith, ints, read-neg x, read-add y (negℤ x))
 ahead-by false x y n e = omega (arith, ints, read-neg x, read-add y (negℤ x), read-neg (pos n))
 
+-- the date of a record within its limits is within those of dates
+dates-stand : (r : IsoDateTime) → Fine r → dateLimits (r .date) ≡ given tt
+dates-stand r f = let b = fine-day r f in fine-limits (r .date) (record { valid = f .date-valid; low = b .0; high = b .1 })
+
+at-least-day : (unit : TemporalUnit) → isDateUnit (atLeastDay unit) ≡ true
+at-least-day U.Year = refl
+at-least-day U.Month = refl
+at-least-day U.Week = refl
+at-least-day U.Day = refl
+at-least-day U.Hour = refl
+at-least-day U.Minute = refl
+at-least-day U.Second = refl
+at-least-day U.Millisecond = refl
+at-least-day U.Microsecond = refl
+at-least-day U.Nanosecond = refl
+
 -- any two moments can be adjusted
 module _ {A : Type 0} (p a q b : ℕ) (k : a < nsPerDay) (l : b < nsPerDay)
     (go-on : (day : ℕ) (forward : Bool) (ns : ℕ) → Adjusts p a q b day forward ns → A) where
@@ -117,7 +139,7 @@ module _ (one two : IsoDateTime) (one-stands : dateTimeLimits one ≡ given tt) 
   two-fine : Fine two
   two-fine = limits-fine two (sym two-stands)
 
-  pub difference-always-given : (unit : TemporalUnit) → dateTimeDifference one two unit ≡ given (differenceISODateTime one two unit)
+  pub difference-always-given : (unit : TemporalUnit) → dateTimeDifference one two unit ≡ given (differenceOfRecords one two unit)
   unfolding dateTimeDifference
   difference-always-given unit = rw (one-stands, two-stands)
 
@@ -180,16 +202,58 @@ module _ (one two : IsoDateTime) (one-stands : dateTimeLimits one ≡ given tt) 
       }))
       (split 3 (unitRank unit))
 
-  -- no two parts have opposed signs
-  pub no-part-opposed : (unit : TemporalUnit) → OneWay (differenceISODateTime one two unit)
-  no-part-opposed unit =
+  some-placed : {A : Type 0} → ((p day : ℕ) (forward : Bool) (ns : ℕ) → Placed one two p day forward ns → A) → A
+  some-placed go-on =
       let a : ℕ = nanoseconds (one .time) in
       let b : ℕ = nanoseconds (two .time) in
       let from = raised-is (epochDays (one .date)) dayBias (omega (arith, ints, fine-day one one-fine, read-diff 0 dayBias)) in
       let to = raised-is (epochDays (two .date)) dayBias (omega (arith, ints, fine-day two two-fine, read-diff 0 dayBias)) in
       some-adjustment _ a _ b (below-day (one .time) (read-valid (one .time) (one-fine .time-valid)))
       (below-day (two .time) (read-valid (two .time) (two-fine .time-valid)))
-      (λ day forward ns t. one-way unit _ day forward ns (placed one two one-fine two-fine _ a _ b day forward ns from to refl refl t))
+      (λ day forward ns t. go-on _ day forward ns (placed one two one-fine two-fine _ a _ b day forward ns from to refl refl t))
+
+  -- no two parts have opposed signs
+  pub no-part-opposed : (unit : TemporalUnit) → OneWay (differenceISODateTime one two unit)
+  no-part-opposed unit = some-placed (one-way unit)
+
+  -- ---- the candidates that are tried
+
+  -- the second date, moved, lies between the two, so that it may stand
+  moved-stands : dateLimits (movedDate one two) ≡ given tt
+  moved-stands =
+      some-placed (λ p day forward ns t.
+      let is = back-and-there (epochDays (two .date) +ℤ movedDays one two) ∙ t .moved-is in
+      let d = read-diff day dayBias in
+      fine-limits (movedDate one two)
+      (record {
+        valid = back-valid (epochDays (two .date) +ℤ movedDays one two);
+        low = rw is (omega (arith, ints, t .day-low));
+        high = rw is (omega (arith, ints, t .day-high));
+      }))
+
+  -- the dates, the second as it was moved, have a difference under the larger of day and the unit
+  pub dates-given : (unit : TemporalUnit) →
+      dateDifference (one .date) (movedDate one two) (atLeastDay unit) ≡ given (differenceOfDates (one .date) (movedDate one two) (atLeastDay unit))
+  unfolding dateDifference
+  dates-given unit = rw (dates-stand one one-fine, moved-stands, at-least-day unit)
+
+  -- and its count is the count of the whole
+  pub tries-of-the-dates : (unit : TemporalUnit) (d : DateDifference) (r : DateTimeDifference) →
+      dateDifference (one .date) (movedDate one two) (atLeastDay unit) ≡ given d → dateTimeDifference one two unit ≡ given r → r .tries ≡ d .tries
+  unfolding differenceTries
+  tries-of-the-dates unit d r e f =
+      sym (ap (λ (x : DateTimeDifference). x .tries) (given-inj (differenceOfRecords one two unit) r (sym (difference-always-given unit) ∙ f))) ∙
+      ap (λ (x : DateDifference). x .tries)
+      (given-inj (differenceOfDates (one .date) (movedDate one two) (atLeastDay unit)) d (sym (dates-given unit) ∙ e))
+
+  pub at-most-15-tried : (unit : TemporalUnit) → differenceTries one two unit ≤ 15
+  unfolding differenceTries
+  at-most-15-tried unit =
+      at-most-15 (one .date) (movedDate one two) (one-fine .date-valid) (back-valid (epochDays (two .date) +ℤ movedDays one two)) (atLeastDay unit)
+
+-- below the day none are, whatever the records
+pub none-below-day : (one two : IsoDateTime) (unit : TemporalUnit) → 4 ≤ unitRank unit → differenceTries one two unit ≡ 0
+none-below-day one two unit h = sym (none-tried one two unit (unitRank unit) refl (omega arith))
 
 -- ---- rounding never refuses with 4, and what it gives may stand
 

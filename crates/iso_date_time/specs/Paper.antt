@@ -12,11 +12,12 @@ use Rattle.iso_date.specs.Paper.{balanced}
 use Rattle.iso_time.specs.Proposal.{isValidTime, balanceTime, validIncrement}
 use Rattle.iso_time.specs.Paper.{allBounded, isRoundingUnit}
 use Rattle.rounding.specs.declared.RoundingMode.{RoundingMode}
+use Rattle.date_math.specs.Tries.{calendarDateTries}
 use Rattle.options.specs.declared.Unit.{Unit as TemporalUnit}
 use Rattle.iso_date_time.specs.Proposal.{isoDateTimeWithinLimits, balanceISODateTime, roundISODateTime, differenceISODateTime}
-use Rattle.iso_date_time.specs.Proposal.{getISOPartsFromEpoch, withOffset}
+use Rattle.iso_date_time.specs.Proposal.{movedDate, atLeastDay, getISOPartsFromEpoch, withOffset}
 use Rattle.iso_date_time.specs.declared.IsoDateTime.{IsoDateTime}
-use Rattle.iso_date_time.specs.declared.InternalDurationRecord.{InternalDurationRecord}
+use Rattle.iso_date_time.specs.declared.DateTimeDifference.{DateTimeDifference}
 use Rattle.iso_date_time.specs.declared.DateTimeResult.{DateTimeResult}
 use Rattle.iso_date_time.specs.declared.DateTimeResult.the-variants as R
 use Rattle.iso_date_time.specs.declared.DifferenceResult.{DifferenceResult}
@@ -28,7 +29,7 @@ abbrev pub ofDateTime : DateTimeResult → Answer IsoDateTime
 ofDateTime (R.DateTime r) = given r
 ofDateTime (R.Refused n) = refused n
 
-abbrev pub ofDifference : DifferenceResult → Answer InternalDurationRecord
+abbrev pub ofDifference : DifferenceResult → Answer DateTimeDifference
 ofDifference (D.Difference d) = given d
 ofDifference (D.Refused n) = refused n
 
@@ -55,10 +56,17 @@ roundDateTime r unit inc mode =
     (check (isoDateTimeWithinLimits (roundISODateTime r inc unit mode)) 3
     (given (roundISODateTime r inc unit mode)))))
 
+-- how many candidates were tried: for the dates, the second as it was moved
+unfoldable pub differenceTries : IsoDateTime → IsoDateTime → TemporalUnit → ℕ
+differenceTries one two unit = calendarDateTries (one .date) (movedDate one two) (atLeastDay unit)
+
+abbrev pub differenceOfRecords : IsoDateTime → IsoDateTime → TemporalUnit → DateTimeDifference
+differenceOfRecords one two unit = record { duration = differenceISODateTime one two unit; tries = differenceTries one two unit }
+
 -- every unit is usable
-unfoldable pub dateTimeDifference : IsoDateTime → IsoDateTime → TemporalUnit → Answer InternalDurationRecord
+unfoldable pub dateTimeDifference : IsoDateTime → IsoDateTime → TemporalUnit → Answer DateTimeDifference
 dateTimeDifference one two unit =
-    andThen (dateTimeLimits one) (λ _. andThen (dateTimeLimits two) (λ _. given (differenceISODateTime one two unit)))
+    andThen (dateTimeLimits one) (λ _. andThen (dateTimeLimits two) (λ _. given (differenceOfRecords one two unit)))
 
 -- an instant: a day and a nanosecond of the day, at most 10^8 days from the epoch
 unfoldable pub isInstant : ℤ → ℤ → Bool

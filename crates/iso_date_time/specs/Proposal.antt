@@ -61,6 +61,10 @@ movedDays one two =
     let span : ℤ = nanosecondsUntil (one .time) (two .time) in
     cond (opposed span (compareISODate (two .date) (one .date))) (signOf span) (pos 0)
 
+-- two's date, moved
+abbrev pub movedDate : IsoDateTime → IsoDateTime → IsoDate
+movedDate one two = addDaysToISODate (two .date) (movedDays one two)
+
 -- the time difference, with those days moved the other way
 abbrev pub timeLeft : IsoDateTime → IsoDateTime → ℤ
 timeLeft one two = nanosecondsUntil (one .time) (two .time) -ℤ pos nsPerDay *ℤ movedDays one two
@@ -83,7 +87,7 @@ joined false d ns = record { date = d; time = inSeconds ns }
 unfoldable pub differenceISODateTime : IsoDateTime → IsoDateTime → TemporalUnit → InternalDurationRecord
 differenceISODateTime one two unit =
     joined (belowDay unit)
-    (calendarDateUntil (one .date) (addDaysToISODate (two .date) (movedDays one two)) (atLeastDay unit)) (timeLeft one two)
+    (calendarDateUntil (one .date) (movedDate one two) (atLeastDay unit)) (timeLeft one two)
 
 -- GetISOPartsFromEpoch: the date of a day number and the time that lies so many nanoseconds after its midnight
 unfoldable pub getISOPartsFromEpoch : ℤ → ℕ → IsoDateTime

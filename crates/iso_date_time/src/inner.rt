@@ -1,8 +1,10 @@
 // Moments as a day and a nanosecond of the day. In differences and for an instant both are naturals.
+use crate::DateTimeDifference;
 use crate::DateTimeResult;
 use crate::InternalDurationRecord;
 use crate::IsoDateTime;
 use date_duration::DateDuration;
+use date_math::DateDifference;
 use iso_date::IsoDate;
 use iso_date::inner::DAY_BIAS;
 use iso_date::inner::day_up;
@@ -25,9 +27,10 @@ ghost use Rattle.whole.specs.Whole.{_⊖_};
 ghost use Rattle.iso_date.specs.Proposal.{isValidISODate, epochDaysToISODate};
 ghost use Rattle.iso_date.specs.Inner.{dayBias};
 ghost use Rattle.iso_time.specs.Proposal.{isValidTime, nanoseconds, inSeconds};
-ghost use Rattle.date_math.specs.Proposal.{directed, calendarDateUntil};
-ghost use Rattle.iso_date_time.specs.Proposal.{dateTime, isoDateTimeWithinLimits, differenceISODateTime, getISOPartsFromEpoch, withOffset};
-ghost use Rattle.iso_date_time.specs.Paper.{ofDateTime, dateTimeLimits, isInstant, isOffset};
+ghost use Rattle.date_math.specs.Proposal.{directed};
+ghost use Rattle.date_math.specs.Paper.{differenceOfDates};
+ghost use Rattle.iso_date_time.specs.Proposal.{dateTime, isoDateTimeWithinLimits, getISOPartsFromEpoch, withOffset};
+ghost use Rattle.iso_date_time.specs.Paper.{ofDateTime, dateTimeLimits, differenceOfRecords, isInstant, isOffset};
 ghost use Rattle.iso_date_time.specs.Inner.{Adjusts};
 
 const NS_PER_DAY: u64 = 86_400_000_000_000;
@@ -127,17 +130,17 @@ fn in_seconds(forward: bool, days: u64, nanoseconds: u64) -> TimeDuration
 }
 
 // The difference of two dates, the second by its day number.
-fn dates_until(one: IsoDate, day: u64, unit: Unit) -> DateDuration
+fn dates_until(one: IsoDate, day: u64, unit: Unit) -> DateDifference
     requires { ⌜ (isValidISODate one ≡ true) × ((dayBias - 100000001 ≤ day) × (day ≤ dayBias + 100000001)) ⌝ }
-    ensures { λ r. ⌜ r ≡ calendarDateUntil one (epochDaysToISODate (day ⊖ dayBias)) unit ⌝ }
+    ensures { λ r. ⌜ r ≡ differenceOfDates one (epochDaysToISODate (day ⊖ dayBias)) unit ⌝ }
 {
     date_math::inner::difference(one, iso_date::inner::civil(day), unit)
 }
 
 // The difference of two records within the limits.
-pub fn difference(one: IsoDateTime, two: IsoDateTime, unit: Unit) -> InternalDurationRecord
+pub fn difference(one: IsoDateTime, two: IsoDateTime, unit: Unit) -> DateTimeDifference
     requires { ⌜ (dateTimeLimits one ≡ given tt) × (dateTimeLimits two ≡ given tt) ⌝ }
-    ensures { λ r. ⌜ r ≡ differenceISODateTime one two unit ⌝ }
+    ensures { λ r. ⌜ r ≡ differenceOfRecords one two unit ⌝ }
 {
     let first = one.date;
     let start = one.time;
@@ -151,19 +154,25 @@ pub fn difference(one: IsoDateTime, two: IsoDateTime, unit: Unit) -> InternalDur
         nanoseconds_of(end),
     );
     if unit.rank() > DAY_RANK {
-        return InternalDurationRecord {
-            date: DateDuration {
-                years: 0,
-                months: 0,
-                weeks: 0,
-                days: 0,
+        return DateTimeDifference {
+            duration: InternalDurationRecord {
+                date: DateDuration {
+                    years: 0,
+                    months: 0,
+                    weeks: 0,
+                    days: 0,
+                },
+                time: in_seconds(t.forward, abs_diff(p, t.day), t.nanoseconds),
             },
-            time: in_seconds(t.forward, abs_diff(p, t.day), t.nanoseconds),
+            tries: 0,
         };
     }
-    InternalDurationRecord {
-        date: dates_until(first, t.day, unit),
-        time: in_seconds(t.forward, 0, t.nanoseconds),
+    let dates = dates_until(first, t.day, unit);
+    let date = dates.duration;
+    let time = in_seconds(t.forward, 0, t.nanoseconds);
+    DateTimeDifference {
+        duration: InternalDurationRecord { date, time },
+        tries: dates.tries,
     }
 }
 

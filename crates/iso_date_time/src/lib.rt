@@ -26,13 +26,19 @@ pub struct InternalDurationRecord {
     pub time: TimeDuration,
 }
 
+// The difference of two records, and how many candidates for years and months were tried for their dates.
+pub struct DateTimeDifference {
+    pub duration: InternalDurationRecord,
+    pub tries: u8,
+}
+
 pub enum DateTimeResult {
     DateTime(IsoDateTime),
     Refused(u8),
 }
 
 pub enum DifferenceResult {
-    Difference(InternalDurationRecord),
+    Difference(DateTimeDifference),
     Refused(u8),
 }
 
@@ -105,8 +111,8 @@ impl IsoDateTime {
         }
     }
 
-    // From one record to another, under any unit: each record (1, 3), then the years to days as far as the unit goes and the time
-    // beside them. Below day the days join the seconds.
+    // From one record to another, under any unit, and how many candidates were tried: each record (1, 3), then the years to days as far
+    // as the unit goes and the time beside them. Below day the days join the seconds, and nothing is tried.
     pub fn diff(self, other: IsoDateTime, unit: Unit) -> DifferenceResult
         ensures { λ r. ⌜ ofDifference r ≡ dateTimeDifference self other unit ⌝ }
     {

@@ -81,31 +81,31 @@ fn months(table: &[u8], out: &mut [u8])
     requires { ⌜ Spells (now table) × (256 ≤ length (now out)) ⌝ }
 {
     show(
-        b"2021-03-31 to 2021-02-28, month: -1 month",
+        b"2021-03-31 to 2021-02-28, month: -1 month; 4 tried",
         b"date_difference 2021 3 31 2021 2 28 1",
         table,
         out,
     );
     show(
-        b"2024-03-31 to 2024-02-28, month: -1 month, -1 day",
+        b"2024-03-31 to 2024-02-28, month: -1 month, -1 day; 4 tried",
         b"date_difference 2024 3 31 2024 2 28 1",
         table,
         out,
     );
     show(
-        b"2021-01-31 to 2021-02-28, month: 28 days",
+        b"2021-01-31 to 2021-02-28, month: 28 days; 3 tried",
         b"date_difference 2021 1 31 2021 2 28 1",
         table,
         out,
     );
     show(
-        b"2020-02-29 to 2021-02-28, year: 11 months, 30 days",
+        b"2020-02-29 to 2021-02-28, year: 11 months, 30 days; 14 tried",
         b"date_difference 2020 2 29 2021 2 28 0",
         table,
         out,
     );
     show(
-        b"back: -11 months, -28 days",
+        b"back: -11 months, -28 days; 14 tried",
         b"date_difference 2021 2 28 2020 2 29 0",
         table,
         out,
@@ -117,25 +117,25 @@ fn spans(table: &[u8], out: &mut [u8])
     requires { ⌜ Spells (now table) × (256 ≤ length (now out)) ⌝ }
 {
     show(
-        b"2024-01-01 to 2024-02-29, week: 8 weeks, 3 days",
+        b"2024-01-01 to 2024-02-29, week: 8 weeks, 3 days; none tried",
         b"date_difference 2024 1 1 2024 2 29 2",
         table,
         out,
     );
     show(
-        b"-271821-04-19 to +275760-09-13, day: 200,000,001 days",
+        b"-271821-04-19 to +275760-09-13, day: 200,000,001 days; none tried",
         b"date_difference -271821 4 19 275760 9 13 3",
         table,
         out,
     );
     show(
-        b"year: 547,581 years, 4 months, 25 days",
+        b"year: 547,581 years, 4 months, 25 days; 8 tried",
         b"date_difference -271821 4 19 275760 9 13 0",
         table,
         out,
     );
     show(
-        b"back: -547,581 years, -4 months, -24 days",
+        b"back: -547,581 years, -4 months, -24 days; 8 tried",
         b"date_difference 275760 9 13 -271821 4 19 0",
         table,
         out,
@@ -226,7 +226,7 @@ fn records(table: &[u8], out: &mut [u8])
     requires { ⌜ Spells (now table) × (256 ≤ length (now out)) ⌝ }
 {
     show(
-        b"2024-01-01T23:00 to 2024-01-02T01:00, day: 0 days, 7,200 seconds",
+        b"2024-01-01T23:00 to 2024-01-02T01:00, day: 0 days, 7,200 seconds; none tried",
         b"datetime_difference 2024 1 1 23 0 0 0 0 0 2024 1 2 1 0 0 0 0 0 3",
         table,
         out,

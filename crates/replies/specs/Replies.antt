@@ -14,8 +14,10 @@ use Rattle.iso_time.specs.declared.TimeDuration.{TimeDuration}
 use Rattle.date_duration.specs.declared.DateDuration.{DateDuration}
 use Rattle.date_duration.specs.declared.Sign.{Sign}
 use Rattle.date_duration.specs.declared.Sign.the-variants as S
+use Rattle.date_math.specs.declared.DateDifference.{DateDifference}
 use Rattle.iso_date_time.specs.declared.IsoDateTime.{IsoDateTime}
 use Rattle.iso_date_time.specs.declared.InternalDurationRecord.{InternalDurationRecord}
+use Rattle.iso_date_time.specs.declared.DateTimeDifference.{DateTimeDifference}
 
 -- an answer is 0 and the bytes that follow it, a refusal its number alone
 abbrev pub replyText : Answer (List ℕ) → List ℕ
@@ -76,6 +78,13 @@ dateTimeValues r = dateValues (r .date) ++ timeValues (r .time)
 
 abbrev pub recordValues : InternalDurationRecord → List ℤ
 recordValues d = durationValues (d .date) ++ spanValues (d .time)
+
+-- of a difference, last, how many candidates were tried
+abbrev pub dateDifferenceValues : DateDifference → List ℤ
+dateDifferenceValues d = durationValues (d .duration) ++ naturalValue (d .tries)
+
+abbrev pub differenceValues : DateTimeDifference → List ℤ
+differenceValues d = recordValues (d .duration) ++ naturalValue (d .tries)
 
 abbrev pub signNumber : Sign → ℤ
 signNumber S.Negative = negℤ (pos 1)

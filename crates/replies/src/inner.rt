@@ -12,6 +12,7 @@ use crate::inner::values::put_time;
 use date_duration::DurationResult;
 use date_duration::Sign;
 use date_duration::SignResult;
+use date_math::DateDifferenceResult;
 use iso_date::DateResult;
 use iso_date::DayResult;
 use iso_date::LimitResult;
@@ -33,13 +34,14 @@ ghost use lib.ListN.{length};
 ghost use Rattle.refusal.specs.Answer.{given, refused};
 ghost use Rattle.iso_date.specs.Paper.{ofMonthLength, ofDay, ofDate, ofLimit};
 ghost use Rattle.date_duration.specs.Paper.{ofDuration, ofSign};
+ghost use Rattle.date_math.specs.Paper.{ofDateDifference};
 ghost use Rattle.iso_date_time.specs.Paper.{ofDateTime, ofDifference};
 ghost use Rattle.iso_time.specs.Paper.{ofTime, ofBalance, ofSpan};
 ghost use Rattle.rounding.specs.Paper.{ofNumber};
 ghost use Rattle.writing.specs.Text.{spaced};
 ghost use Rattle.replies.specs.Replies.{Replied, shown, noValues, naturalValue, wholeValue, dateValues, yearMonthValues, timeValues};
 ghost use Rattle.replies.specs.Replies.{balancedValues, spanValues, durationValues, signNumber, signValue, dateTimeValues};
-ghost use Rattle.replies.specs.Replies.{recordValues};
+ghost use Rattle.replies.specs.Replies.{dateDifferenceValues, differenceValues};
 
 pub fn length_reply(out: &mut [u8], at: usize, r: MonthLengthResult) -> usize
     requires { ⌜ at + 255 ≤ length (now out) ⌝ }
@@ -190,14 +192,31 @@ pub fn date_time_reply(out: &mut [u8], at: usize, r: DateTimeResult) -> usize
     }
 }
 
-pub fn record_reply(out: &mut [u8], at: usize, r: DifferenceResult) -> usize
+pub fn date_difference_reply(out: &mut [u8], at: usize, r: DateDifferenceResult) -> usize
     requires { ⌜ at + 255 ≤ length (now out) ⌝ }
-    ensures { λ e. ⌜ Replied (now (out .entry)) at (shown recordValues (ofDifference r)) (now (out .exit)) e ⌝ }
+    ensures { λ e. ⌜ Replied (now (out .entry)) at (shown dateDifferenceValues (ofDateDifference r)) (now (out .exit)) e ⌝ }
+{
+    match r {
+        DateDifferenceResult::Difference(d) => {
+            let duration = d.duration;
+            let next = put_byte(out, at, b'0');
+            let tries = put_duration(out, next, duration);
+            put_natural(out, tries, d.tries as u64)
+        }
+        DateDifferenceResult::Refused(n) => refusal(out, at, n),
+    }
+}
+
+pub fn difference_reply(out: &mut [u8], at: usize, r: DifferenceResult) -> usize
+    requires { ⌜ at + 255 ≤ length (now out) ⌝ }
+    ensures { λ e. ⌜ Replied (now (out .entry)) at (shown differenceValues (ofDifference r)) (now (out .exit)) e ⌝ }
 {
     match r {
         DifferenceResult::Difference(d) => {
+            let duration = d.duration;
             let next = put_byte(out, at, b'0');
-            put_record(out, next, d)
+            let tries = put_record(out, next, duration);
+            put_natural(out, tries, d.tries as u64)
         }
         DifferenceResult::Refused(n) => refusal(out, at, n),
     }

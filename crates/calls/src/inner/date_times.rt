@@ -8,8 +8,8 @@ use parameters::inner::values::mode;
 use parameters::inner::values::unit;
 use parameters::inner::word;
 use replies::inner::date_time_reply;
+use replies::inner::difference_reply;
 use replies::inner::limit_reply;
-use replies::inner::record_reply;
 ghost use Rattle.parameters.specs.Meaning.{numbersIn};
 ghost use Rattle.replies.specs.Replies.{Replied};
 ghost use Rattle.calls.specs.Table.{takesOf, answersOf};
@@ -57,7 +57,7 @@ pub fn datetime_difference(n: Numbers, out: &mut [u8], at: usize) -> usize
 {
     let one = date_time(n, 0);
     let answer = one.diff(date_time(n, 9), unit(n, 18));
-    record_reply(out, at, answer)
+    difference_reply(out, at, answer)
 }
 
 pub fn datetime_from_instant(n: Numbers, out: &mut [u8], at: usize) -> usize

@@ -4,8 +4,8 @@ use parameters::inner::values::date;
 use parameters::inner::values::duration;
 use parameters::inner::values::overflow;
 use parameters::inner::values::unit;
+use replies::inner::date_difference_reply;
 use replies::inner::date_reply;
-use replies::inner::duration_reply;
 ghost use Rattle.parameters.specs.Meaning.{numbersIn};
 ghost use Rattle.replies.specs.Replies.{Replied};
 ghost use Rattle.calls.specs.Table.{takesOf, answersOf};
@@ -24,5 +24,5 @@ pub fn date_difference(n: Numbers, out: &mut [u8], at: usize) -> usize
     ensures { λ r. ⌜ Replied (now (out .entry)) at (answersOf "date_difference" (numbersIn n)) (now (out .exit)) r ⌝ }
 {
     let answer = date_math::diff_iso_date(date(n, 0), date(n, 3), unit(n, 6));
-    duration_reply(out, at, answer)
+    date_difference_reply(out, at, answer)
 }

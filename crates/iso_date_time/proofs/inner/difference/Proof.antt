@@ -1,8 +1,11 @@
--- The second date is moved to a day, and the time is what is then left, both of one direction; below the day the days join the time.
+-- The second date is moved to a day, and the time is what is then left, both of one direction; below the day the days join the time. The
+-- candidates tried are those of the dates.
 use borrow.Author.Needs.{needs}
-use mathlib.Core.Path.{sym}
+use native.Mathlib.Omega.{arith}
+use mathlib.Core.Path.{sym, ap}
+use Rattle.date_math.specs.declared.DateDifference.{DateDifference}
 use Rattle.iso_date_time.proofs.Moments.{limits-fine}
-use Rattle.iso_date_time.proofs.Differences.{Placed, placed, dates-and-time, time-alone}
+use Rattle.iso_date_time.proofs.Differences.{Placed, placed, dates-and-time, time-alone, dates-tried, none-tried, with-tries}
 use Rattle.iso_date_time.proofs.inner.difference.Statement.{statement}
 use Rattle.iso_date_time.proofs.inner.difference.Tie as tie
 
@@ -36,22 +39,30 @@ returns : tie.Need-returns
 returns c =
     let t = c .before .before .before .before in
     let s = t .before .before .before .before .before .before .before .before .before in
-    time-alone _ _ (s .args .unit) _ _ _ _ _ (at-day t) (c .before .before .before .rank .ensures) (limits-fine _ (sym (s .pre .0)) .date-valid) _ _
-    (c .before .before .if1 .taken) (c .before .abs-diff .ensures) (c .in-seconds .ensures)
+    let r = c .before .before .before .rank .ensures in
+    with-tries _ _ _ _
+    (time-alone _ _ (s .args .unit) _ _ _ _ _ (at-day t) r (limits-fine _ (sym (s .pre .0)) .date-valid) _ _ (c .before .before .if1 .taken)
+    (c .before .abs-diff .ensures) (c .in-seconds .ensures))
+    (none-tried _ _ (s .args .unit) _ r (c .before .before .if1 .taken))
 
 dates-until-requires : tie.Need-dates-until-requires
 dates-until-requires c κs =
     let t = c .before .before in
     let s = t .before .before .before .before .before .before .before .before .before in
     let a = at-day t in
-    (limits-fine _ (sym (s .pre .0)) .date-valid, (a .day-low, a .day-high))
+    (limits-fine _ (sym (s .pre .0)) .date-valid, (a .day-low, omega (arith, a .day-high)))
 
 returns-2 : tie.Need-returns-2
 returns-2 c =
-    let t = c .before .before .before .before in
+    let d = c .before .before in
+    let e = d .before in
+    let t = e .before .before in
     let s = t .before .before .before .before .before .before .before .before .before in
-    dates-and-time _ _ (s .args .unit) _ _ _ _ _ (at-day t) (c .before .before .before .rank .ensures) _ _ (c .before .before .if1 .left)
-    (c .before .dates-until .ensures) (c .in-seconds2 .ensures)
+    let r = e .before .rank .ensures in
+    with-tries _ _ _ _
+    (dates-and-time _ _ (s .args .unit) _ _ _ _ _ (at-day t) r _ _ (e .if1 .left) (ap (λ (x : DateDifference). x .duration) (d .dates-until .ensures))
+    (c .in-seconds2 .ensures))
+    (dates-tried _ _ (s .args .unit) _ _ _ _ _ (at-day t) r _ (e .if1 .left) (ap (λ (x : DateDifference). x .tries) (d .dates-until .ensures)))
 
 pub difference-spec : {M : Type 1} → statement M
 difference-spec =

@@ -1,7 +1,7 @@
 use borrow.Author.Needs.{needs}
 use mathlib.Core.Path.{ap}
 use Rattle.parameters.proofs.Laws.{holds-at}
-use Rattle.replies.specs.Replies.{shown, recordValues}
+use Rattle.replies.specs.Replies.{shown, differenceValues}
 use Rattle.replies.proofs.Laws.{replied-as}
 use Rattle.calls.proofs.inner.date_times.datetime_difference.Statement.{statement}
 use Rattle.calls.proofs.inner.date_times.datetime_difference.Tie as tie
@@ -12,8 +12,8 @@ returns c =
     let n2 = call .before in
     let n1 = n2 .before in
     let n0 = n1 .before in
-    replied-as (c .before .before .record-reply .ensures)
-    (ap (shown recordValues) (rw (n0 .date-time .ensures, n1 .date-time2 .ensures, n2 .unit .ensures) at (call .diff .ensures)))
+    replied-as (c .before .before .difference-reply .ensures)
+    (ap (shown differenceValues) (rw (n0 .date-time .ensures, n1 .date-time2 .ensures, n2 .unit .ensures) at (call .diff .ensures)))
 
 pub datetime-difference-spec : {M : Type 1} → statement M
 datetime-difference-spec =
