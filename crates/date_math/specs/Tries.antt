@@ -23,11 +23,11 @@ abbrev pub yearsApart : IsoDate → IsoDate → ℕ
 yearsApart one two = natAbs (two .year -ℤ one .year)
 
 module _ (forward : Bool) (one two : IsoDate) where
-  -- from one less than the years apart, or from 0. The year after them has passed, so that the bound is not reached
+  -- from one less than the years apart, or from 0. The year after them has passed, so that the bound cuts nothing off
   unfoldable pub yearTries : ℕ
   yearTries = tries (λ k. isoDateSurpasses forward (inYears one (directed forward k)) two) (yearsApart one two + 2) (yearsApart one two - 1)
 
-  -- from 1, on from where the years lead. A year on from there has passed, so that the bound is not reached
+  -- from 1, on from where the years lead. A year on from there has passed, so that the bound cuts nothing off
   unfoldable pub monthTries : ℕ
   monthTries =
       tries (λ k. isoDateSurpasses forward (movedBy one (directed forward (yearsUntil forward one two)) (directed forward k)) two)
