@@ -1,5 +1,5 @@
 -- What is said of the difference of two dates beyond the rules: every part has the direction in which the second date lies. And the word
--- by which the rules speak of an answer that has a count as well.
+-- by which demand 3 is said of an answer, which has a count as well.
 use Prim.Native.Nat.{ℕ}
 use mathlib.Core.Path.{_≡_}
 use mathlib.Core.Bool.{Bool, true, false}
