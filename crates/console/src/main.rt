@@ -2,6 +2,8 @@
 //
 // How the bytes of an input are cut into lines is proved in the crate `stream`, what each line is answered in `requests`. Here the
 // bytes are read and the answers written, and what the system refuses is told on standard error.
+#![tactic(auto)]
+
 ghost use Rattle.std.specs.Prelude.{◌≡◌, true, ◌≤◌, length};
 ghost use Rattle.requests.specs.Requests.{line_room};
 ghost use Rattle.requests.specs.Layout.{Spells};

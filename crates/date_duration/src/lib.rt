@@ -1,4 +1,6 @@
 // Date durations: years, months, weeks and days that do not pull opposite ways.
+#![tactic(auto)]
+
 ghost use Rattle.std.specs.Prelude.{◌≡◌, ◌<◌, ◌^◌, nat_abs, pos};
 ghost use Rattle.date_duration.specs.Proposal.{duration, sign_of, small, small_days, all_small, any_below, any_above};
 ghost use Rattle.date_duration.specs.Proposal.{is_valid_duration, date_duration_sign, kept_or};
@@ -10,7 +12,7 @@ const MOST_PART: i64 = 4_294_967_295;
 const MOST_DAYS: i64 = 104_249_991_374;
 
 // A duration's parts. Any numbers may stand in them; each call that takes a record checks it.
-#[derive(Drop)]
+#[derive(Clone, Copy)]
 pub struct DateDuration {
     pub years: i64,
     pub months: i64,
@@ -18,7 +20,7 @@ pub struct DateDuration {
     pub days: i64,
 }
 
-#[derive(Drop)]
+#[derive(Clone, Copy)]
 pub enum Sign {
     Negative,
     Zero,
@@ -26,19 +28,19 @@ pub enum Sign {
 }
 
 // A part that adjusting keeps, or the one it is given.
-#[derive(Drop)]
+#[derive(Clone, Copy)]
 pub enum Part {
     Kept,
     Given(i64),
 }
 
-#[derive(Drop)]
+#[derive(Clone, Copy)]
 pub enum DurationResult {
     Duration(DateDuration),
     Refused(u8),
 }
 
-#[derive(Drop)]
+#[derive(Clone, Copy)]
 pub enum SignResult {
     Sign(Sign),
     Refused(u8),

@@ -47,7 +47,7 @@ pub fn place(date: IsoDate) -> u64
 }
 
 // The count that a trial keeps, and how many candidates were compared to find it.
-#[derive(Drop)]
+#[derive(Clone, Copy)]
 pub struct Kept {
     pub count: u64,
     pub tries: u8,
@@ -98,7 +98,7 @@ fn kept_months(gap: u64) -> Kept
 }
 
 // What the trial of years and months found, and how many candidates it compared.
-#[derive(Drop)]
+#[derive(Clone, Copy)]
 pub struct Trial {
     pub years: u64,
     pub months: u64,

@@ -1,4 +1,6 @@
 // Sum and difference of dates.
+#![tactic(auto)]
+
 pub mod inner;
 
 ghost use Rattle.std.specs.Prelude.{◌≡◌};
@@ -10,13 +12,13 @@ use iso_date::{DateResult, IsoDate, LimitResult};
 use options::{DAY_RANK, Overflow, Unit};
 
 // The difference of two dates, and how many candidates for years and months were tried to find it.
-#[derive(Drop)]
+#[derive(Clone, Copy)]
 pub struct DateDifference {
     pub duration: DateDuration,
     pub tries: u8,
 }
 
-#[derive(Drop)]
+#[derive(Clone, Copy)]
 pub enum DateDifferenceResult {
     Difference(DateDifference),
     Refused(u8),

@@ -1,4 +1,6 @@
 // Date text: dates, times and dates with a time, read from a lent text and written into a lent slice.
+#![tactic(auto)]
+
 ghost use Rattle.std.specs.Prelude.{◌≡◌, length};
 ghost use Rattle.iso_date.specs.Paper.{of_date};
 ghost use Rattle.iso_time.specs.Paper.{of_time};
@@ -16,7 +18,7 @@ use iso_time::{IsoTime, TimeResult};
 use writing::inner::put_byte;
 
 // How many bytes a writer wrote, or the number of its refusal.
-#[derive(Drop)]
+#[derive(Clone, Copy)]
 pub enum LengthResult {
     Length(usize),
     Refused(u8),

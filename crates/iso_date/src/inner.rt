@@ -146,7 +146,7 @@ pub fn civil(n: u64) -> IsoDate
 }
 
 // A year and one of its months, both as naturals; the months are counted from 0.
-#[derive(Drop)]
+#[derive(Clone, Copy)]
 pub struct UpMonth {
     pub year: u64,
     pub index: u64,

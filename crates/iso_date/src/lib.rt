@@ -1,4 +1,6 @@
 // Dates of the ISO calendar: day counts and month lengths, the year-month balance, regulating, making, the limits and balancing.
+#![tactic(auto)]
+
 pub mod inner;
 
 ghost use Rattle.std.specs.Prelude.{◌≡◌, true};
@@ -9,38 +11,38 @@ ghost use Rattle.iso_date.specs.Paper.{regulate_date, make_date, date_limits, ba
 use options::Overflow;
 
 // A date's fields. Any numbers may stand in them; each call that takes a record checks it.
-#[derive(Drop)]
+#[derive(Clone, Copy)]
 pub struct IsoDate {
     pub year: i32,
     pub month: u8,
     pub day: u8,
 }
 
-#[derive(Drop)]
+#[derive(Clone, Copy)]
 pub struct YearMonth {
     pub year: i32,
     pub month: u8,
 }
 
-#[derive(Drop)]
+#[derive(Clone, Copy)]
 pub enum MonthLengthResult {
     Days(u8),
     Refused(u8),
 }
 
-#[derive(Drop)]
+#[derive(Clone, Copy)]
 pub enum DayResult {
     Day(i64),
     Refused(u8),
 }
 
-#[derive(Drop)]
+#[derive(Clone, Copy)]
 pub enum DateResult {
     Date(IsoDate),
     Refused(u8),
 }
 
-#[derive(Drop)]
+#[derive(Clone, Copy)]
 pub enum LimitResult {
     Within,
     Refused(u8),

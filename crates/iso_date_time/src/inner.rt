@@ -58,7 +58,7 @@ pub fn limited(date: IsoDate, time: IsoTime) -> DateTimeResult
 }
 
 // The day that the second date is moved to, and the time that is then left: whether it goes forward, and its size.
-#[derive(Drop)]
+#[derive(Clone, Copy)]
 pub struct Adjustment {
     pub day: u64,
     pub forward: bool,

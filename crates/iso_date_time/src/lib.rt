@@ -1,4 +1,6 @@
 // Dates with a time: limits, balancing, rounding, differences, and the record of an instant.
+#![tactic(auto)]
+
 pub mod inner;
 
 ghost use Rattle.std.specs.Prelude.{◌≡◌};
@@ -12,33 +14,33 @@ use options::Unit;
 use rounding::RoundingMode;
 
 // A date and a time of its day. Any numbers may stand in the fields; each call that takes a record checks it.
-#[derive(Drop)]
+#[derive(Clone, Copy)]
 pub struct IsoDateTime {
     pub date: IsoDate,
     pub time: IsoTime,
 }
 
 // Years to days, and the time beside them.
-#[derive(Drop)]
+#[derive(Clone, Copy)]
 pub struct InternalDurationRecord {
     pub date: DateDuration,
     pub time: TimeDuration,
 }
 
 // The difference of two records, and how many candidates for years and months were tried for their dates.
-#[derive(Drop)]
+#[derive(Clone, Copy)]
 pub struct DateTimeDifference {
     pub duration: InternalDurationRecord,
     pub tries: u8,
 }
 
-#[derive(Drop)]
+#[derive(Clone, Copy)]
 pub enum DateTimeResult {
     DateTime(IsoDateTime),
     Refused(u8),
 }
 
-#[derive(Drop)]
+#[derive(Clone, Copy)]
 pub enum DifferenceResult {
     Difference(DateTimeDifference),
     Refused(u8),

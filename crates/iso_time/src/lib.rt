@@ -1,4 +1,6 @@
 // Times of the day: regulating, balancing, differences and rounding.
+#![tactic(auto)]
+
 pub mod inner;
 
 ghost use Rattle.std.specs.Prelude.{◌≡◌, min};
@@ -10,7 +12,7 @@ use options::{Overflow, Unit};
 use rounding::RoundingMode;
 
 // A time's fields. Any numbers may stand in them; each call that takes a record checks it.
-#[derive(Drop)]
+#[derive(Clone, Copy)]
 pub struct IsoTime {
     pub hour: u8,
     pub minute: u8,
@@ -21,32 +23,32 @@ pub struct IsoTime {
 }
 
 // A time with the days that were carried.
-#[derive(Drop)]
+#[derive(Clone, Copy)]
 pub struct BalancedTime {
     pub days: i64,
     pub time: IsoTime,
 }
 
 // Whole seconds and the nanoseconds below one, neither opposed in sign to the other.
-#[derive(Drop)]
+#[derive(Clone, Copy)]
 pub struct TimeDuration {
     pub seconds: i64,
     pub nanoseconds: i64,
 }
 
-#[derive(Drop)]
+#[derive(Clone, Copy)]
 pub enum TimeResult {
     Time(IsoTime),
     Refused(u8),
 }
 
-#[derive(Drop)]
+#[derive(Clone, Copy)]
 pub enum BalanceResult {
     Balanced(BalancedTime),
     Refused(u8),
 }
 
-#[derive(Drop)]
+#[derive(Clone, Copy)]
 pub enum SpanResult {
     Span(TimeDuration),
     Refused(u8),

@@ -1,5 +1,7 @@
 // The text of a line: where a word of it ends, and which words are numbers.
 // Nothing of calendars.
+#![tactic(auto)]
+
 ghost use Rattle.std.specs.Prelude.{◌≡◌, cond, ◌&&◌, ◌+◌, ◌^◌, ltb, pos, neg_ℤ, length, drop};
 ghost use Rattle.lines.specs.Text.{word, all_digits, value_from, natural_of, number_of, within, number, none};
 ghost use Rattle.lines.specs.Meaning.{of_number, of_natural};
@@ -11,7 +13,7 @@ const SPACE: u8 = b' ';
 const SMALLEST: u64 = 0x8000_0000_0000_0000;
 
 // A whole number, in one way only: a natural, how far a negative number lies below -1, or no number.
-#[derive(Drop)]
+#[derive(Clone, Copy)]
 pub enum Number {
     Plus(u64),
     Minus(u64),
@@ -19,7 +21,7 @@ pub enum Number {
 }
 
 // A natural, or none.
-#[derive(Drop)]
+#[derive(Clone, Copy)]
 enum Natural {
     Is(u64),
     Not,

@@ -1,16 +1,18 @@
 // The options that calls take by value.
+#![tactic(auto)]
+
 ghost use Rattle.std.specs.Prelude.{◌≡◌};
 ghost use Rattle.options.specs.Units.{unit_rank};
 
 // What becomes of a field that is out of its range.
-#[derive(Drop)]
+#[derive(Clone, Copy)]
 pub enum Overflow {
     Constrain,
     Reject,
 }
 
 // A unit of a duration or a rounding, the largest first.
-#[derive(Drop)]
+#[derive(Clone, Copy)]
 pub enum Unit {
     Year,
     Month,

@@ -1,4 +1,6 @@
 // Every reading of the bench, in words, as a request, and with its answer.
+#![tactic(auto)]
+
 ghost use Rattle.std.specs.Prelude.{◌≤◌, length};
 ghost use Rattle.requests.specs.Layout.{Spells};
 

@@ -1,4 +1,5 @@
 // The numbers that a refusal carries. An answer carries 0.
+#![tactic(auto)]
 
 // A field names no date or no time.
 pub const FIELD: u8 = 1;

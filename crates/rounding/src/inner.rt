@@ -51,7 +51,7 @@ pub const MOST_ABOVE: u64 = 0x7fff_ffff_ffff_ffff;
 pub const MOST_BELOW: u64 = 0x8000_0000_0000_0000;
 
 // A size, or that it is past what the answer can hold.
-#[derive(Drop)]
+#[derive(Clone, Copy)]
 pub enum Size {
     Is(u64),
     Past,

@@ -1,4 +1,6 @@
 // Rounding of a number to a step, exactly.
+#![tactic(auto)]
+
 pub mod inner;
 
 ghost use Rattle.std.specs.Prelude.{◌≡◌, ◌-◌, ◌^◌};
@@ -8,7 +10,7 @@ ghost use Rattle.rounding.specs.Paper.{of_number, round_number, round_number_as_
 use inner::{MOST_ABOVE, MOST_BELOW, Size};
 use whole::inner::{from_natural, negated, size_of_negative, to_natural};
 
-#[derive(Drop)]
+#[derive(Clone, Copy)]
 pub enum RoundingMode {
     Ceil,
     Floor,
@@ -22,7 +24,7 @@ pub enum RoundingMode {
 }
 
 // What becomes of a size between two multiples. Infinity is away from zero.
-#[derive(Drop)]
+#[derive(Clone, Copy)]
 pub enum UnsignedRoundingMode {
     Infinity,
     Zero,
@@ -31,7 +33,7 @@ pub enum UnsignedRoundingMode {
     HalfEven,
 }
 
-#[derive(Drop)]
+#[derive(Clone, Copy)]
 pub enum NumberResult {
     Number(i64),
     Refused(u8),

@@ -10,7 +10,7 @@ use writing::inner::put_byte;
 
 // How far the taking of a block has come: the place of the next byte, how much of the line that has not ended stands in the line
 // buffer, whether that line outgrew it, and how much of the output buffer is filled.
-#[derive(Drop)]
+#[derive(Clone, Copy)]
 pub struct Progress {
     pub at: usize,
     pub have: usize,

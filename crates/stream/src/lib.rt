@@ -1,3 +1,5 @@
 // An input of bytes: how it is cut into lines, and the bytes that answer it. All of it asks for the table of the calls, so it stands in
 // `inner`.
+#![tactic(auto)]
+
 pub mod inner;

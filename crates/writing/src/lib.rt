@@ -1,2 +1,4 @@
 // Numbers written into a lent buffer.
+#![tactic(auto)]
+
 pub mod inner;

@@ -7,15 +7,15 @@ use Rattle.requests.specs.Requests.{line_room}
 use Rattle.console.proofs.answer_all.Statement.{statement}
 use Rattle.console.proofs.answer_all.Tie as tie
 
-abbrev invariant_loop : tie.invariant_loop
+abbrev invariant_loop : tie.invariant-loop-turns
 invariant_loop table block₀ line₀ out₀ state₀ turns₀ block line out state turns =
     ((length block ≡ length block₀) × ((length line ≡ length line₀) × (length out ≡ length out₀))) × ((state.have ≤ line_room) × (state.filled ≡ 0))
 
-abbrev decreases_loop : tie.decreases_loop
+abbrev decreases_loop : tie.decreases-loop-turns
 decreases_loop table block₀ line₀ out₀ state₀ turns₀ block line out state turns = turns
 
-pub answer-all-spec : {M : Type 1} → statement M
-answer-all-spec =
+pub answer_all_spec : {M : Type 1} → statement M
+answer_all_spec =
     tie.close
     (tie.spec invariant_loop decreases_loop (λ c. search rules) (λ c. search rules) (λ c κs. search rules) (λ c κs. search rules) (λ c. search rules)
     (λ c. search rules) (λ c. search rules) (λ c. search rules) (λ c κs. search rules) (λ c. search rules) (λ c. search rules) (λ c κs. search rules)

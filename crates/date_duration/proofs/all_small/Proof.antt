@@ -10,13 +10,13 @@ returns : tie.Need-returns
 unfolding all_small
 returns c =
     let t = c.before.before.before in
-    let f = t.before.ranges in
+    let f = t.ranges in
     all_four
-    (rw (to_z-of_z f.years) at t.is-small.ensures)
-    (rw (to_z-of_z f.months) at c.before.before.is-small2.ensures)
-    (rw (to_z-of_z f.weeks) at c.before.is-small3.ensures)
-    (rw (to_z-of_z f.days) at c.is-small-in-days.ensures)
+    (rw (to_z-of_z f.years) at t.is_small.ensures)
+    (rw (to_z-of_z f.months) at c.is_small-2.ensures)
+    (rw (to_z-of_z f.weeks) at c.is_small-3.ensures)
+    (rw (to_z-of_z f.days) at c.is_small_in_days.ensures)
 
-pub all-small-spec : {M : Type 1} → statement M
-all-small-spec =
+pub all_small_spec : {M : Type 1} → statement M
+all_small_spec =
     tie.close (tie.spec (λ c κs. search rules) (λ c κs. search rules) (λ c κs. search rules) (λ c κs. search rules) returns)

@@ -7,5 +7,5 @@ use Rattle.date_duration.proofs.any_below.Tie as tie
 returns : tie.Need-returns
 returns c = rw (to_z-of_z c.ranges.years, to_z-of_z c.ranges.months, to_z-of_z c.ranges.weeks, to_z-of_z c.ranges.days) (below_tests _ _ _ _)
 
-pub any-below-spec : {M : Type 1} → statement M
-any-below-spec = tie.close (tie.spec returns)
+pub any_below_spec : {M : Type 1} → statement M
+any_below_spec = tie.close (tie.spec returns)

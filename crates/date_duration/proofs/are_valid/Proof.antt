@@ -9,10 +9,10 @@ returns : tie.Need-returns
 unfolding is_valid_duration
 returns c =
     let t = c.before.before in
-    let f = t.before.ranges in
-    rw (c.all_small.ensures, t.any_below.ensures, c.before.any-above.ensures)
+    let f = t.ranges in
+    rw (c.all_small.ensures, t.any_below.ensures, c.any_above.ensures)
     (rw (to_z-of_z f.years, to_z-of_z f.months, to_z-of_z f.weeks, to_z-of_z f.days))
 
-pub are-valid-spec : {M : Type 1} → statement M
-are-valid-spec =
+pub are_valid_spec : {M : Type 1} → statement M
+are_valid_spec =
     tie.close (tie.spec (λ c κs. search rules) (λ c κs. search rules) (λ c κs. search rules) returns)

@@ -8,5 +8,5 @@ use Rattle.date_duration.proofs.is_small_in_days.Tie as tie
 returns : tie.Need-returns
 returns c = rw (to_z-of_z c.ranges.x) (small_days_is c.args.x)
 
-pub is-small-in-days-spec : {M : Type 1} → statement M
-is-small-in-days-spec = tie.close (tie.spec (λ c. search rules) returns)
+pub is_small_in_days_spec : {M : Type 1} → statement M
+is_small_in_days_spec = tie.close (tie.spec (λ c. search rules) returns)

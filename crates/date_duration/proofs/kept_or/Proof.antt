@@ -7,16 +7,16 @@ use mir.Val.{to_z, of_z}
 use Rattle.date_duration.proofs.kept_or.Statement.{statement}
 use Rattle.date_duration.proofs.kept_or.Tie as tie
 
-returns : tie.Need-returns
+returns : tie.Need-returns-in-Kept
 returns c =
-    let s = c.before.before in
-    rw (to_z-of_z s.ranges.old, c.enum_told.given.1)
+    let s = c.before in
+    rw (to_z-of_z s.ranges.old, c.in-Kept.is)
 
-returns-2 : tie.Need-returns-2
+returns-2 : tie.Need-returns-in-Given
 returns-2 c =
-    let x = c.before.part.given.0.0 in
+    let x = c.in-Given.x in
     let back : to_z w64 (of_z w64 x) ≡ x = search rules in
-    rw (back, c.before.part.given.1)
+    rw (back, c.in-Given.is)
 
-pub kept-or-spec : {M : Type 1} → statement M
-kept-or-spec = tie.close (tie.spec (λ c. search rules) (λ c. search rules) returns returns-2)
+pub kept_or_spec : {M : Type 1} → statement M
+kept_or_spec = tie.close (tie.spec (λ c. search rules) (λ c. search rules) returns returns-2)

@@ -9,17 +9,17 @@ use Rattle.date_duration.proofs.Durations.{turn_fits, turn_is, size_below, size_
 use Rattle.date_duration.proofs.size.Statement.{statement}
 use Rattle.date_duration.proofs.size.Tie as tie
 
-returns : tie.Need-returns
+returns : tie.Need-returns-then-x-lt0
 returns c =
     let s = c.before in
     let h : s.args.x <ℤ pos 0 = omega (arith, ints) in
     turn_is (record { fits = s.ranges.x; low = s.requires }) ∙ size_below s.args.x h
 
-returns-2 : tie.Need-returns-2
+returns-2 : tie.Need-returns
 returns-2 c =
     let s = c.before in
-    let h : pos 0 ≤ℤ s.args.x = omega (arith, ints, c.if1.false) in
+    let h : pos 0 ≤ℤ s.args.x = omega (arith, ints, c.if-x-lt0.false) in
     to_z-of_z s.ranges.x ∙ size_above s.args.x h
 
-pub size-spec : {M : Type 1} → statement M
-size-spec = tie.close (tie.spec (λ c. turn_fits (record { fits = c.before.ranges.x; low = c.before.requires })) returns returns-2)
+pub size_spec : {M : Type 1} → statement M
+size_spec = tie.close (tie.spec (λ c. turn_fits (record { fits = c.ranges.x; low = c.requires })) returns returns-2)

@@ -13,37 +13,37 @@ use Rattle.date_text.proofs.Answers.{used_up, left_over}
 use Rattle.date_text.proofs.read_date.Statement.{statement}
 use Rattle.date_text.proofs.read_date.Tie as tie
 
-abbrev text : tie.After-known-told → List ℕ
-text c = c.before.before.before.before.before.args.text.now
+abbrev text : tie.In-Is → List ℕ
+text c = c.args.text.now
 
-date_took : (c : tie.After-known-told) → date_form (text c) ≡ took c.before.date.given.0.0 (drop c.before.date.given.0.1.0 (text c))
-date_took c = (date_there c.before.before.before.date-at.ensures c.before.date.given.1).0
+date_took : (c : tie.In-Is) → date_form (text c) ≡ took c.in-Is.date (drop c.in-Is.end (text c))
+date_took c = (date_there c.date_at.ensures c.in-Is.is).0
 
-the_date : (c : tie.Else1) → wholly (date_form (text c.before)) ≡ given c.before.before.date.given.0.0
-the_date c = used_up _ _ _ _ (date_took c.before) c.if1.false
+the_date : (c : tie.Else1) → wholly (date_form (text c.before)) ≡ given c.in-Is.date
+the_date c = used_up _ _ _ _ (date_took c.before) c.if-end-text.false
 
-returns : tie.Need-returns
+returns : tie.Need-returns-in_default
 unfolding read_date
-returns c = rw (date_missing c.before.before.date-at.ensures c.enum_told.given.1)
+returns c = rw (date_missing c.date_at.ensures c.in_default.is)
 
-returns-2 : tie.Need-returns-2
+returns-2 : tie.Need-returns-then-end-text
 unfolding read_date
-returns-2 c = rw (left_over _ _ _ _ (date_took c.before) c.if1.true)
+returns-2 c = rw (left_over _ _ _ _ (date_took c.before) c.if-end-text.true)
 
-returns-3 : tie.Need-returns-3
+returns-3 : tie.Need-returns-in-Refused
 unfolding read_date
 returns-3 c =
-    let l = c.before.before.before in
-    rw (the_date l.before, sym l.check-within-limits.ensures, c.before.n.given.1)
+    let l = c.before in
+    rw (the_date l.before, sym l.check_within_limits.ensures, c.in-Refused.is)
 
-returns-4 : tie.Need-returns-4
+returns-4 : tie.Need-returns
 unfolding read_date
 returns-4 c =
-    let l = c.before.before in
-    rw (the_date l.before, sym l.check-within-limits.ensures, c.enum-told2.given.1)
+    let l = c.before in
+    rw (the_date l.before, sym l.check_within_limits.ensures, c.in_default-check_within_limits.is)
 
-pub read-date-spec : {M : Type 1} → statement M
-read-date-spec =
+pub read_date_spec : {M : Type 1} → statement M
+read_date_spec =
     tie.close
     (tie.spec (λ c κs. search rules) (λ c. search rules) (λ c. search rules) returns returns-2 (λ c κs. search rules) (λ c. search rules) returns-3
     (λ c. search rules) returns-4)

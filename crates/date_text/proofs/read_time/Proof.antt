@@ -14,36 +14,36 @@ use Rattle.date_text.proofs.Answers.{used_up, left_over}
 use Rattle.date_text.proofs.read_time.Statement.{statement}
 use Rattle.date_text.proofs.read_time.Tie as tie
 
-abbrev text : tie.After-known-told → List ℕ
-text c = c.before.before.before.before.before.args.text.now
+abbrev text : tie.In-Is → List ℕ
+text c = c.args.text.now
 
-time_took : (c : tie.After-known-told) → time_form (text c) ≡ took c.before.time.given.0.0 (drop c.before.time.given.0.1.0 (text c))
-time_took c = (time_there c.before.before.before.time-at.ensures c.before.time.given.1).0
+time_took : (c : tie.In-Is) → time_form (text c) ≡ took c.in-Is.time (drop c.in-Is.end (text c))
+time_took c = (time_there c.time_at.ensures c.in-Is.is).0
 
-the_time : (c : tie.Else1) → wholly (time_form (text c.before)) ≡ given c.before.before.time.given.0.0
-the_time c = used_up _ _ _ _ (time_took c.before) c.if1.false
+the_time : (c : tie.Else1) → wholly (time_form (text c.before)) ≡ given c.in-Is.time
+the_time c = used_up _ _ _ _ (time_took c.before) c.if-end-text.false
 
-returns : tie.Need-returns
+returns : tie.Need-returns-in_default
 unfolding read_time
-returns c = rw (time_missing c.before.before.time-at.ensures c.enum_told.given.1)
+returns c = rw (time_missing c.time_at.ensures c.in_default.is)
 
-returns-2 : tie.Need-returns-2
+returns-2 : tie.Need-returns-then-end-text
 unfolding read_time
-returns-2 c = rw (left_over _ _ _ _ (time_took c.before) c.if1.true)
+returns-2 c = rw (left_over _ _ _ _ (time_took c.before) c.if-end-text.true)
 
-returns-3 : tie.Need-returns-3
+returns-3 : tie.Need-returns-then-not-is_valid
 unfolding read_time
 returns-3 c =
     let v = c.before in
-    rw (the_time v.before, sym v.is_valid.ensures ∙ not-true v.is_valid.result c.if2.true)
+    rw (the_time v.before, sym v.is_valid.ensures ∙ not-true v.is_valid.result c.if-not-is_valid.true)
 
-returns-4 : tie.Need-returns-4
+returns-4 : tie.Need-returns
 unfolding read_time
 returns-4 c =
     let v = c.before in
-    rw (the_time v.before, sym v.is_valid.ensures ∙ not-false v.is_valid.result c.if2.false)
+    rw (the_time v.before, sym v.is_valid.ensures ∙ not-false v.is_valid.result c.if-not-is_valid.false)
 
-pub read-time-spec : {M : Type 1} → statement M
-read-time-spec =
+pub read_time_spec : {M : Type 1} → statement M
+read_time_spec =
     tie.close
     (tie.spec (λ c κs. search rules) (λ c. search rules) (λ c. search rules) returns returns-2 (λ c κs. search rules) returns-3 returns-4)

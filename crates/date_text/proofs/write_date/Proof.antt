@@ -13,20 +13,20 @@ use Rattle.date_text.proofs.write_date.Statement.{statement}
 use Rattle.date_text.proofs.write_date.Tie as tie
 
 -- the record is within its limits
-within : (c : tie.After-enum-told) → date_limits c.before.before.before.before.args.date ≡ given tt
-within c = rw c.enum_told.given.1 at (sym c.before.before.check-within-limits.ensures)
+within : (c : tie.In_default) → date_limits c.args.date ≡ given tt
+within c = rw c.in_default.is at (sym c.check_within_limits.ensures)
 
-refused_by : (c : tie.After-known-told) (room : ℕ) →
-    write_date c.before.before.before.before.before.args.date room ≡ refused c.before.n.given.0.0
+refused_by : (c : tie.In-Refused) (room : ℕ) →
+    write_date c.args.date room ≡ refused c.in-Refused.n
 unfolding write_date
-refused_by c room = rw (sym c.before.before.before.check-within-limits.ensures, c.before.n.given.1)
+refused_by c room = rw (sym c.check_within_limits.ensures, c.in-Refused.is)
 
-returns : tie.Need-returns
+returns : tie.Need-returns-in-Refused
 returns c = refuses _ _ _ (refused_by c _)
 
-module _ (c : tie.After-date-length) where
+module _ (c : tie.After-date_length) where
   abbrev at_start : tie.Start
-  at_start = c.before.before.before.before.before
+  at_start = c.before
 
   abbrev room : ℕ
   room = length at_start.args.out.now
@@ -39,17 +39,17 @@ module _ (c : tie.After-date-length) where
   unfolding write_date
   enough h = rw (within c.before) (has_room room (date_text at_start.args.date) h)
 
-returns-2 : tie.Need-returns-2
-returns-2 c = refuses _ _ _ (no_room c.before (omega (arith, c.before.date-length.ensures)))
+returns-2 : tie.Need-returns-then-out-date_length
+returns-2 c = refuses _ _ _ (no_room c.before (omega (arith, c.date_length.ensures)))
 
-returns-3 : tie.Need-returns-3
+returns-3 : tie.Need-returns
 returns-3 c =
     let d = c.before.before in
     let l = d.before.before.before in
-    writes _ (enough l (omega (arith, l.date-length.ensures))) d.put-date.ensures
+    writes _ (enough l (omega (arith, l.date_length.ensures))) d.put_date.ensures
 
-pub write-date-spec : {M : Type 1} → statement M
-write-date-spec =
+pub write_date_spec : {M : Type 1} → statement M
+write_date_spec =
     tie.close
     (tie.spec (λ c κs. search rules) (λ c. search rules) returns (λ c. search rules) (λ c κs. search rules) returns-2
     (λ c κs. search rules) (λ c. search rules) returns-3)

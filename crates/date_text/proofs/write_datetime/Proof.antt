@@ -16,20 +16,20 @@ use Rattle.date_text.proofs.write_datetime.Statement.{statement}
 use Rattle.date_text.proofs.write_datetime.Tie as tie
 
 -- the record is within its limits
-within : (c : tie.After-enum-told) → date_time_limits c.before.before.before.before.args.stamp ≡ given tt
-within c = rw c.enum_told.given.1 at (sym c.before.before.check-within-limits.ensures)
+within : (c : tie.In_default) → date_time_limits c.args.stamp ≡ given tt
+within c = rw c.in_default.is at (sym c.check_within_limits.ensures)
 
-refused_by : (c : tie.After-known-told) (room : ℕ) →
-    write_date_time c.before.before.before.before.before.args.stamp room ≡ refused c.before.n.given.0.0
+refused_by : (c : tie.In-Refused) (room : ℕ) →
+    write_date_time c.args.stamp room ≡ refused c.in-Refused.n
 unfolding write_date_time
-refused_by c room = rw (sym c.before.before.before.check-within-limits.ensures, c.before.n.given.1)
+refused_by c room = rw (sym c.check_within_limits.ensures, c.in-Refused.is)
 
-returns : tie.Need-returns
+returns : tie.Need-returns-in-Refused
 returns c = refuses _ _ _ (refused_by c _)
 
-module _ (c : tie.After-time-length) where
-  abbrev told : tie.After-enum-told
-  told = c.before.before.before.before.before
+module _ (c : tie.After-time_length) where
+  abbrev told : tie.In_default
+  told = c.before.before.before.before
 
   abbrev at_start : tie.Start
   at_start = told.before.before.before.before
@@ -37,14 +37,14 @@ module _ (c : tie.After-time-length) where
   abbrev room : ℕ
   room = length at_start.args.out.now
 
-  long : c.before.date-length.result + 1 + c.time-length.result ≡ length (date_time_text at_start.args.stamp)
+  long : c.date_length.result + 1 + c.time_length.result ≡ length (date_time_text at_start.args.stamp)
   long =
       omega (
         arith,
         stamp_length at_start.args.stamp,
-        c.before.date-length.ensures.0,
-        c.time-length.ensures.0,
-        ap length (trims_written _ _ c.before.before.fraction-of.ensures),
+        c.date_length.ensures.0,
+        c.time_length.ensures.0,
+        ap length (trims_written _ _ c.fraction_of-fraction.ensures),
         time_length_is at_start.args.stamp.time,
       )
 
@@ -56,38 +56,38 @@ module _ (c : tie.After-time-length) where
   unfolding write_date_time
   enough h = rw (within told) (has_room room (date_time_text at_start.args.stamp) h)
 
-returns-2 : tie.Need-returns-2
+returns-2 : tie.Need-returns-then-out-date_length
 returns-2 c = refuses _ _ _ (no_room c.before (omega (arith, long c.before)))
 
-put-time-requires : tie.Need-put-time-requires
+put-time-requires : tie.Need-put_time-requires
 put-time-requires c κs =
     let t = c.before.before.before in
     let d = t.before.before.before.before in
     let l = d.before.before.before in (
-      l.before.before.fraction-of.ensures,
+      l.fraction_of-fraction.ensures,
       omega (
         arith,
         long l,
         stamp_length (at_start l).args.stamp,
-        d.put-date.ensures.ends,
-        d.put-date.ensures.sized,
-        t.put_byte.ensures.ends,
-        t.put_byte.ensures.sized,
+        d.put_date-mark.ensures.ends,
+        d.put_date-mark.ensures.sized,
+        t.put_byte-start.ensures.ends,
+        t.put_byte-start.ensures.sized,
       ),
     )
 
-returns-3 : tie.Need-returns-3
+returns-3 : tie.Need-returns
 unfolding date_time_text
 returns-3 c =
     let z = c.before.before in
     let t = z.before.before.before.before in
     let d = t.before.before.before.before in
     let l = d.before.before.before in
-    writes _ (enough l (omega (arith, long l))) (after d.put-date.ensures (after t.put_byte.ensures z.put-time.ensures))
+    writes _ (enough l (omega (arith, long l))) (after d.put_date-mark.ensures (after t.put_byte-start.ensures z.put_time.ensures))
 
-pub write-datetime-spec : {M : Type 1} → statement M
-write-datetime-spec =
+pub write_datetime_spec : {M : Type 1} → statement M
+write_datetime_spec =
     tie.close
     (tie.spec (λ c κs. search rules) (λ c. search rules) returns (λ c. search rules) (λ c κs. (limits_fine _ (sym (within c.before.before))).time_valid)
-    (λ c κs. search rules) (λ c. search rules) (λ c κs. c.before.fraction-of.ensures.few) (λ c. search rules) returns-2
+    (λ c κs. search rules) (λ c. search rules) (λ c κs. c.fraction_of-fraction.ensures.few) (λ c. search rules) returns-2
     (λ c κs. search rules) (λ c κs. search rules) put-time-requires (λ c. search rules) returns-3)

@@ -23,45 +23,45 @@ not_valid c room = rw (sym c.before.is_valid.ensures ∙ not-true c.before.is_va
 valid : (c : tie.Else1) → is_valid_time c.before.before.before.args.time ≡ true
 valid c = sym c.before.is_valid.ensures ∙ not-false c.before.is_valid.result c.if1.false
 
-returns : tie.Need-returns
+returns : tie.Need-returns-then-not-is_valid
 returns c = refuses _ _ _ (not_valid c _)
 
-module _ (c : tie.After-time-length) where
+module _ (c : tie.After-time_length) where
   abbrev at_start : tie.Start
-  at_start = c.before.before.before.before.before
+  at_start = c.before
 
   abbrev room : ℕ
   room = length at_start.args.out.now
 
-  long : c.time-length.result ≡ length (time_text at_start.args.time)
+  long : c.time_length.result ≡ length (time_text at_start.args.time)
   long =
-      c.time-length.ensures.0 ∙ ap (λ (k : ℕ). 8 + k) (ap length (trims_written _ _ c.before.fraction-of.ensures)) ∙
+      c.time_length.ensures.0 ∙ ap (λ (k : ℕ). 8 + k) (ap length (trims_written _ _ c.fraction_of-fraction.ensures)) ∙
       sym (time_length_is at_start.args.time)
 
   no_room : room < length (time_text at_start.args.time) → write_time at_start.args.time room ≡ refused 10
   unfolding write_time
-  no_room h = rw (valid c.before.before) (too_short room (time_text at_start.args.time) h)
+  no_room h = rw (valid c.before) (too_short room (time_text at_start.args.time) h)
 
   enough : length (time_text at_start.args.time) ≤ room → write_time at_start.args.time room ≡ given (time_text at_start.args.time)
   unfolding write_time
-  enough h = rw (valid c.before.before) (has_room room (time_text at_start.args.time) h)
+  enough h = rw (valid c.before) (has_room room (time_text at_start.args.time) h)
 
-returns-2 : tie.Need-returns-2
+returns-2 : tie.Need-returns-then-out-time_length
 returns-2 c = refuses _ _ _ (no_room c.before (omega (arith, long c.before)))
 
-put-time-requires : tie.Need-put-time-requires
+put-time-requires : tie.Need-put_time-requires
 put-time-requires c κs =
     let l = c.before.before in
-    (l.before.fraction-of.ensures, omega (arith, long l))
+    (l.fraction_of-fraction.ensures, omega (arith, long l))
 
-returns-3 : tie.Need-returns-3
+returns-3 : tie.Need-returns
 returns-3 c =
     let d = c.before.before in
     let l = d.before.before.before in
-    writes _ (enough l (omega (arith, long l))) d.put-time.ensures
+    writes _ (enough l (omega (arith, long l))) d.put_time.ensures
 
-pub write-time-spec : {M : Type 1} → statement M
-write-time-spec =
+pub write_time_spec : {M : Type 1} → statement M
+write_time_spec =
     tie.close
-    (tie.spec (λ c κs. search rules) returns (λ c κs. valid c) (λ c κs. c.fraction-of.ensures.few) returns-2 put-time-requires (λ c. search rules)
+    (tie.spec (λ c κs. search rules) returns (λ c κs. valid c) (λ c κs. c.fraction_of-fraction.ensures.few) returns-2 put-time-requires (λ c. search rules)
     returns-3)

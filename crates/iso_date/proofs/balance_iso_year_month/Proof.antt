@@ -10,12 +10,12 @@ returns : tie.Need-returns
 returns c =
     let a = c.before.before in
     let s = a.before.before.before in
-    year_month_is _ _ _ _ _ _ _ (sym (to_z-of_z s.ranges.year) ∙ a.before.before.year-up.ensures.0)
-    (sym (to_z-of_z s.ranges.month) ∙ a.before.month-up.ensures.0)
-    a.balance-up.ensures (to_z-of_z (record { sfits = c.before.year-down.type-inv }) ∙ c.before.year-down.ensures)
+    year_month_is _ _ _ _ _ _ _ (sym (to_z-of_z s.ranges.year) ∙ a.year_up.ensures.0)
+    (sym (to_z-of_z s.ranges.month) ∙ a.month_up.ensures.0)
+    a.balance_up-b.ensures (to_z-of_z (record { sfits = c.year_down.type_inv }) ∙ c.year_down.ensures)
 
-pub balance-iso-year-month-spec : {M : Type 1} → statement M
-balance-iso-year-month-spec =
+pub balance_iso_year_month_spec : {M : Type 1} → statement M
+balance_iso_year_month_spec =
     tie.close
     (tie.spec (λ c κs. search rules) (λ c κs. search rules) (λ c κs. search rules) (λ c κs. search rules) (λ c. search rules) (λ c. search rules)
     returns)

@@ -10,17 +10,17 @@ returns : tie.Need-returns
 unfolding all_bounded
 returns c =
     let h = c.before.before.before.before.before in
-    let f = h.before.ranges in
+    let f = h.ranges in
     all_six
-    (rw (to_z-of_z f.hour) at h.is-bounded.ensures)
-    (rw (to_z-of_z f.minute) at c.before.before.before.before.is-bounded2.ensures)
-    (rw (to_z-of_z f.second) at c.before.before.before.is-bounded3.ensures)
-    (rw (to_z-of_z f.millisecond) at c.before.before.is-bounded4.ensures)
-    (rw (to_z-of_z f.microsecond) at c.before.is-bounded5.ensures)
-    (rw (to_z-of_z f.nanosecond) at c.is-bounded6.ensures)
+    (rw (to_z-of_z f.hour) at h.is_bounded.ensures)
+    (rw (to_z-of_z f.minute) at c.is_bounded-2.ensures)
+    (rw (to_z-of_z f.second) at c.is_bounded-3.ensures)
+    (rw (to_z-of_z f.millisecond) at c.is_bounded-4.ensures)
+    (rw (to_z-of_z f.microsecond) at c.is_bounded-5.ensures)
+    (rw (to_z-of_z f.nanosecond) at c.is_bounded-6.ensures)
 
-pub are-bounded-spec : {M : Type 1} → statement M
-are-bounded-spec =
+pub are_bounded_spec : {M : Type 1} → statement M
+are_bounded_spec =
     tie.close
     (tie.spec (λ c κs. search rules) (λ c κs. search rules) (λ c κs. search rules) (λ c κs. search rules) (λ c κs. search rules)
     (λ c κs. search rules) returns)

@@ -10,10 +10,10 @@ returns c =
     let m = c.before.before in
     let s = m.before in
     let h = s.before.before in
-    rw (h.least8.ensures, s.before.least82.ensures, s.least83.ensures, m.least16.ensures, c.before.least162.ensures, c.least163.ensures)
+    rw (h.least8.ensures, s.least8-2.ensures, s.least8-3.ensures, m.least16.ensures, c.least16-2.ensures, c.least16-3.ensures)
 
-pub constrain-spec : {M : Type 1} → statement M
-constrain-spec =
+pub constrain_spec : {M : Type 1} → statement M
+constrain_spec =
     tie.close
     (tie.spec (λ c κs. search rules) (λ c κs. search rules) (λ c κs. search rules) (λ c κs. search rules) (λ c κs. search rules)
     (λ c κs. search rules) returns)

@@ -8,5 +8,5 @@ use Rattle.iso_time.proofs.is_bounded.Tie as tie
 returns : tie.Need-returns
 returns c = rw (to_z-of_z c.ranges.x) (size_within c.args.x 9007199254740991)
 
-pub is-bounded-spec : {M : Type 1} → statement M
-is-bounded-spec = tie.close (tie.spec (λ c. search rules) returns)
+pub is_bounded_spec : {M : Type 1} → statement M
+is_bounded_spec = tie.close (tie.spec (λ c. search rules) returns)

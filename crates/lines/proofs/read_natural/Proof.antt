@@ -7,18 +7,18 @@ use Rattle.lines.proofs.Numbers.{natural_empty, natural_zeros, natural_one, natu
 use Rattle.lines.proofs.read_natural.Statement.{statement}
 use Rattle.lines.proofs.read_natural.Tie as tie
 
-returns : tie.Need-returns
-returns c = sym (natural_empty c.before.before.args.text.now c.if1.true)
+returns : tie.Need-returns-then-text-eq0
+returns c = sym (natural_empty c.args.text.now c.if-text-eq0.true)
 
-returns-2 : tie.Need-returns-2
-returns-2 c = sym (natural_zeros c.before.before.before.before.before.args.text.now (omega arith) c.if3.true)
+returns-2 : tie.Need-returns-then-text-eq48
+returns-2 c = sym (natural_zeros c.args.text.now (omega arith) c.if-text-eq48.true)
 
-returns-3 : tie.Need-returns-3
+returns-3 : tie.Need-returns
 returns-3 c =
-    let s = c.before.before.before.before.args.text.now in
+    let s = c.args.text.now in
     c.digits_value.ensures ∙
-    sym (⊎_elim (λ w. natural_more s (omega arith) w.2.left) (λ w. natural_one s c.before.before.if1.false (omega arith)) c.before.if2.branch)
+    sym (⊎_elim (λ w. natural_more s (omega arith) w.2.left) (λ w. natural_one s c.if-text-eq0.false (omega arith)) c.if-text-gt1.branch)
 
-pub read-natural-spec : {M : Type 1} → statement M
-read-natural-spec =
+pub read_natural_spec : {M : Type 1} → statement M
+read_natural_spec =
     tie.close (tie.spec returns (λ c. search rules) returns-2 (λ c κs. search rules) returns-3)

@@ -11,56 +11,56 @@ use Rattle.lines.proofs.Numbers.{number_empty, number_plain, number_minus, after
 use Rattle.lines.proofs.read_number.Statement.{statement}
 use Rattle.lines.proofs.read_number.Tie as tie
 
-returns : tie.Need-returns
-returns c = sym (number_empty c.before.before.args.text.now c.if1.true)
+returns : tie.Need-returns-then-text-eq0
+returns c = sym (number_empty c.args.text.now c.if-text-eq0.true)
 
-returns-2 : tie.Need-returns-2
+returns-2 : tie.Need-returns-in_default
 returns-2 c =
-    ap of_natural (sym c.enum_told.given.1) ∙
-    c.before.before.read-natural.ensures ∙
-    sym (number_plain c.before.before.before.before.before.before.before.args.text.now
-    c.before.before.before.before.before.if1.false c.before.before.before.if2.true)
+    ap of_natural (sym c.in_default.is) ∙
+    c.read_natural.ensures ∙
+    sym (number_plain c.args.text.now
+    c.if-text-eq0.false c.if-text-ne45.true)
 
-returns-3 : tie.Need-returns-3
+returns-3 : tie.Need-returns-then-text-ne45
 returns-3 c =
-    ap of_natural (sym c.before.n.given.1) ∙
-    c.before.before.before.read-natural.ensures ∙
-    sym (number_plain c.before.before.before.before.before.before.before.before.args.text.now
-    c.before.before.before.before.before.before.if1.false c.before.before.before.before.if2.true)
+    ap of_natural (sym c.in-Is.is) ∙
+    c.read_natural.ensures ∙
+    sym (number_plain c.args.text.now
+    c.if-text-eq0.false c.if-text-ne45.true)
 
 -- after `-`: the text, what is read of the rest of it, and what that says of the whole
-abbrev text : tie.After-read-natural2 → List ℕ
-text c = c.before.before.before.before.before.before.args.text.now
+abbrev text : tie.After-read_natural-2 → List ℕ
+text c = c.args.text.now
 
-rest : (c : tie.After-read-natural2) → of_natural c.read-natural2.result ≡ natural_of (drop 1 (text c))
-rest c = c.read-natural2.ensures ∙ ap natural_of (after_first (text c))
+rest : (c : tie.After-read_natural-2) → of_natural c.read_natural-2.result ≡ natural_of (drop 1 (text c))
+rest c = c.read_natural-2.ensures ∙ ap natural_of (after_first (text c))
 
-signed : (c : tie.After-read-natural2) → number_of (text c) ≡ negative_of (drop 1 (text c))
-signed c = number_minus (text c) c.before.before.before.before.if1.false c.before.before.if2.false
+signed : (c : tie.After-read_natural-2) → number_of (text c) ≡ negative_of (drop 1 (text c))
+signed c = number_minus (text c) c.if-text-eq0.false c.if-text-ne45.false
 
-returns-4 : tie.Need-returns-4
+returns-4 : tie.Need-returns-in_default-read_natural
 returns-4 c =
-    let d = c.before.before in
-    sym (signed d ∙ negative_none (drop 1 (text d)) (sym (rest d) ∙ ap of_natural c.enum-told2.given.1))
+    let d = c.before in
+    sym (signed d ∙ negative_none (drop 1 (text d)) (sym (rest d) ∙ ap of_natural c.in_default-read_natural.is))
 
-returns-5 : tie.Need-returns-5
+returns-5 : tie.Need-returns-then-size-eq0
 returns-5 c =
-    let d = c.before.before.before.before in
-    sym (signed d ∙ negative_zero (drop 1 (text d)) _ (sym (rest d) ∙ ap of_natural c.before.before.size.given.1) c.if3.true)
+    let d = c.before.before in
+    sym (signed d ∙ negative_zero (drop 1 (text d)) _ (sym (rest d) ∙ ap of_natural c.in-Is-read_natural.is) c.if-size-eq0.true)
 
-returns-6 : tie.Need-returns-6
+returns-6 : tie.Need-returns-then-size-gt-SMALLEST
 returns-6 c =
-    let d = c.before.before.before.before.before in
-    sym (signed d ∙ negative_large (drop 1 (text d)) _ (sym (rest d) ∙ ap of_natural c.before.before.before.size.given.1) (omega arith))
+    let d = c.before.before.before in
+    sym (signed d ∙ negative_large (drop 1 (text d)) _ (sym (rest d) ∙ ap of_natural c.in-Is-read_natural.is) (omega arith))
 
-returns-7 : tie.Need-returns-7
+returns-7 : tie.Need-returns
 returns-7 c =
-    let d = c.before.before.before.before.before in
-    sym (signed d ∙ negative_some (drop 1 (text d)) _ (sym (rest d) ∙ ap of_natural c.before.before.before.size.given.1) c.before.if3.false
+    let d = c.before.before.before in
+    sym (signed d ∙ negative_some (drop 1 (text d)) _ (sym (rest d) ∙ ap of_natural c.in-Is-read_natural.is) c.if-size-eq0.false
     (omega arith))
 
-pub read-number-spec : {M : Type 1} → statement M
-read-number-spec =
+pub read_number_spec : {M : Type 1} → statement M
+read_number_spec =
     tie.close
     (tie.spec returns (λ c. search rules) (λ c κs. search rules) (λ c. search rules) (λ c. search rules) returns-2 returns-3 (λ c. search rules)
     (λ c. search rules) (λ c. search rules) (λ c κs. search rules) (λ c. search rules) (λ c. search rules) returns-4 returns-5 returns-6

@@ -7,8 +7,8 @@ use Rattle.writing.proofs.Writing.{ends_inside}
 use Rattle.readings.proofs.show.Statement.{statement}
 use Rattle.readings.proofs.show.Tie as tie
 
-pub show-spec : {M : Type 1} → statement M
-show-spec =
+pub show_spec : {M : Type 1} → statement M
+show_spec =
     tie.close
     (tie.spec (λ c κs. search rules) (λ c. search rules) (λ c κs. search rules) (λ c κs. search rules) (λ c. search rules) (λ c κs. search rules)
     (λ c κs. search rules) (λ c. ends_inside (omega arith) c.before.before.respond.ensures)

@@ -9,10 +9,10 @@ use Rattle.rounding.proofs.negative.Statement.{statement}
 use Rattle.rounding.proofs.negative.Tie as tie
 
 negated-requires : tie.Need-negated-requires
-negated-requires c κs = is_at_most _ _ _ c.before.size.given.1 c.before.before.before.requires
+negated-requires c κs = is_at_most _ _ _ c.in-Is.is c.requires
 
-returns : tie.Need-returns
-returns c = ap given (to_z-of_z (record { sfits = c.negated.type-inv }) ∙ c.negated.ensures) ∙ ap negative_size (sym c.before.before.size.given.1)
+returns : tie.Need-returns-in-Is
+returns c = ap given (to_z-of_z (record { sfits = c.negated.type_inv }) ∙ c.negated.ensures) ∙ ap negative_size (sym c.in-Is.is)
 
-pub negative-spec : {M : Type 1} → statement M
-negative-spec = tie.close (tie.spec (λ c. search rules) negated-requires (λ c. search rules) returns (λ c. search rules))
+pub negative_spec : {M : Type 1} → statement M
+negative_spec = tie.close (tie.spec (λ c. search rules) negated-requires (λ c. search rules) returns (λ c. search rules))

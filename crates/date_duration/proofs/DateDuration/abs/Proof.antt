@@ -10,19 +10,19 @@ use Rattle.date_duration.proofs.Durations.{AllTurnable, turnable, low_back, size
 use Rattle.date_duration.proofs.DateDuration.abs.Statement.{statement}
 use Rattle.date_duration.proofs.DateDuration.abs.Tie as tie
 
-returns : tie.Need-returns
+returns : tie.Need-returns-then-not-is_valid
 unfolding duration_abs
-returns c = rw (sym c.before.is_valid.ensures ∙ not-true _ c.if1.true)
+returns c = rw (sym c.is_valid.ensures ∙ not-true _ c.if-not-is_valid.true)
 
-is_valid : (c : tie.Else1) → is_valid_duration c.before.before.args.self ≡ true
-is_valid c = sym c.before.is_valid.ensures ∙ not-false _ c.if1.false
+is_valid : (c : tie.Else1) → is_valid_duration c.args.self ≡ true
+is_valid c = sym c.is_valid.ensures ∙ not-false _ c.if-not-is_valid.false
 
-parts : (c : tie.After-struct-told) → AllTurnable c.before.before.before.args.self
+parts : (c : tie.After-struct_told-1) → AllTurnable c.args.self
 parts c =
-    let g = c.struct_told.given in
+    let g = c.struct_told-1.given in
     turnable _ g.0.1 g.1.0.1 g.1.1.0.1 g.1.1.1.0.1 (is_valid c.before)
 
-returns-2 : tie.Need-returns-2
+returns-2 : tie.Need-returns
 unfolding duration_abs
 returns-2 c =
     let three = c.before.before in
@@ -31,11 +31,11 @@ returns-2 c =
     let p = parts one.before in
     rw (is_valid one.before.before)
     (ap given
-    (same_parts _ _ _ _ _ _ _ _ (size_is p.of_years one.size.type-inv one.size.ensures) (size_is p.of_months two.size2.type-inv two.size2.ensures)
-    (size_is p.of_weeks three.size3.type-inv three.size3.ensures) (size_is p.of_days c.size4.type-inv c.size4.ensures)))
+    (same_parts _ _ _ _ _ _ _ _ (size_is p.of_years one.size.type_inv one.size.ensures) (size_is p.of_months two.size-2.type_inv two.size-2.ensures)
+    (size_is p.of_weeks three.size-3.type_inv three.size-3.ensures) (size_is p.of_days c.size-4.type_inv c.size-4.ensures)))
 
-pub abs-spec : {M : Type 1} → statement M
-abs-spec =
+pub abs_spec : {M : Type 1} → statement M
+abs_spec =
     tie.close
     (tie.spec (λ c κs. search rules) returns (λ c κs. low_back (parts c).of_years) (λ c κs. low_back (parts c.before.before).of_months)
     (λ c κs. low_back (parts c.before.before.before.before).of_weeks)

@@ -9,23 +9,23 @@ use Rattle.date_duration.proofs.Durations.{part_is, adjust_is}
 use Rattle.date_duration.proofs.DateDuration.adjust.Statement.{statement}
 use Rattle.date_duration.proofs.DateDuration.adjust.Tie as tie
 
-returns : tie.Need-returns
+returns : tie.Need-returns-then-not-is_valid
 unfolding duration_adjust
-returns c = rw (sym c.before.is_valid.ensures ∙ not-true _ c.if1.true)
+returns c = rw (sym c.is_valid.ensures ∙ not-true _ c.if-not-is_valid.true)
 
-returns-2 : tie.Need-returns-2
+returns-2 : tie.Need-returns
 returns-2 c =
     let k2 = c.before.before in
     let k1 = k2.before.before in
     let v = k1.before.before in
     let s = v.before.before in
     let a = s.args in
-    let g = c.before.struct-told3.given in
+    let g = c.struct_told-3-1.given in
     c.new.ensures ∙
-    adjust_is a.self _ _ _ _ _ _ _ (sym v.before.is_valid.ensures ∙ not-false _ v.if1.false) (to_z-of_z (record { sfits = g.0.1 }))
-    (part_is (kept_or a.months) g.1.0.1 k1.kept-or.type-inv k1.kept-or.ensures)
-    (part_is (kept_or a.weeks) g.1.1.0.1 k2.kept-or2.type-inv k2.kept-or2.ensures) (to_z-of_z s.ranges.days)
+    adjust_is a.self _ _ _ _ _ _ _ (sym v.is_valid.ensures ∙ not-false _ v.if-not-is_valid.false) (to_z-of_z (record { sfits = g.0.1 }))
+    (part_is (kept_or a.months) g.1.0.1 k1.kept_or.type_inv k1.kept_or.ensures)
+    (part_is (kept_or a.weeks) g.1.1.0.1 k2.kept_or-2.type_inv k2.kept_or-2.ensures) (to_z-of_z s.ranges.days)
 
-pub adjust-spec : {M : Type 1} → statement M
-adjust-spec =
+pub adjust_spec : {M : Type 1} → statement M
+adjust_spec =
     tie.close (tie.spec (λ c κs. search rules) returns (λ c κs. search rules) (λ c κs. search rules) (λ c κs. search rules) returns-2)

@@ -10,19 +10,19 @@ use Rattle.date_duration.proofs.Durations.{AllTurnable, turnable, turn_fits, tur
 use Rattle.date_duration.proofs.DateDuration.negated.Statement.{statement}
 use Rattle.date_duration.proofs.DateDuration.negated.Tie as tie
 
-returns : tie.Need-returns
+returns : tie.Need-returns-then-not-is_valid
 unfolding duration_negated
-returns c = rw (sym c.before.is_valid.ensures ∙ not-true _ c.if1.true)
+returns c = rw (sym c.is_valid.ensures ∙ not-true _ c.if-not-is_valid.true)
 
-is_valid : (c : tie.Else1) → is_valid_duration c.before.before.args.self ≡ true
-is_valid c = sym c.before.is_valid.ensures ∙ not-false _ c.if1.false
+is_valid : (c : tie.Else1) → is_valid_duration c.args.self ≡ true
+is_valid c = sym c.is_valid.ensures ∙ not-false _ c.if-not-is_valid.false
 
-parts : (c : tie.After-struct-told) → AllTurnable c.before.before.before.before.args.self
+parts : (c : tie.After-struct_told-1) → AllTurnable c.args.self
 parts c =
-    let g = c.struct_told.given in
+    let g = c.struct_told-1.given in
     turnable _ g.0.1 g.1.0.1 g.1.1.0.1 g.1.1.1.0.1 (is_valid c.before.before)
 
-returns-2 : tie.Need-returns-2
+returns-2 : tie.Need-returns
 unfolding duration_negated
 returns-2 c =
     let t = c.before.before.before.before.before.before in
@@ -30,8 +30,8 @@ returns-2 c =
     rw (is_valid t.before.before)
     (ap given (same_parts _ _ _ _ _ _ _ _ (turn_is p.of_years) (turn_is p.of_months) (turn_is p.of_weeks) (turn_is p.of_days)))
 
-pub negated-spec : {M : Type 1} → statement M
-negated-spec =
+pub negated_spec : {M : Type 1} → statement M
+negated_spec =
     tie.close
     (tie.spec (λ c κs. search rules) returns (λ c. turn_fits (parts c).of_years) (λ c. turn_fits (parts c.before.before).of_months)
     (λ c. turn_fits (parts c.before.before.before.before).of_weeks)

@@ -9,14 +9,14 @@ use Rattle.whole.proofs.Laws.{ints, range_of}
 use Rattle.date_forms.proofs.inner.above.Statement.{statement}
 use Rattle.date_forms.proofs.inner.above.Tie as tie
 
-small : (c : tie.After-known-told) → c.before.p.given.0.0 < 10 ^ 6
-small c = rw c.before.p.given.1 at c.before.before.before.requires
+small : (c : tie.In-Is) → c.in-Is.n < 10 ^ 6
+small c = rw c.in-Is.is at c.requires
 
-cast-t5 : tie.Need-overflow-cast-t5
-cast-t5 c = omega (arith, ints, small c, range_of (pos c.before.p.given.0.0))
+cast-t5 : tie.Need-overflow_cast-result
+cast-t5 c = omega (arith, ints, small c, range_of (pos c.in-Is.n))
 
-returns : tie.Need-returns
-returns c = rw (c.before.p.given.1, to_z_pos w32 {n = c.before.p.given.0.0} (omega (arith, small c)))
+returns : tie.Need-returns-in-Is
+returns c = rw (c.in-Is.is, to_z_pos w32 {n = c.in-Is.n} (omega (arith, small c)))
 
-pub above-spec : {M : Type 1} → statement M
-above-spec = tie.close (tie.spec (λ c. search rules) cast-t5 (λ c. search rules) returns (λ c. search rules))
+pub above_spec : {M : Type 1} → statement M
+above_spec = tie.close (tie.spec (λ c. search rules) cast-t5 (λ c. search rules) returns (λ c. search rules))

@@ -23,8 +23,8 @@ returns : tie.Need-returns
 unfolding clock_time
 returns c = rw (read_is c.before)
 
-pub clock-spec : {M : Type 1} → statement M
-clock-spec =
+pub clock_spec : {M : Type 1} → statement M
+clock_spec =
     tie.close
     (tie.spec (λ c. search rules) (λ c. search rules) (λ c. omega (arith, small c.before)) (λ c. omega arith) (λ c. search rules)
     (λ c. search rules) returns)

@@ -17,12 +17,12 @@ trim-requires c κs =
 
 returns : tie.Need-returns
 returns c =
-    let t = c.before.before.before.before.args.time in
+    let t = c.args.time in
     let e : (t.millisecond * 1_000 + t.microsecond) * 1_000 + t.nanosecond ≡ billionths_of t = omega arith in
     subst (λ (n : ℕ). Trims n c.trim.result) e c.trim.ensures
 
-pub fraction-of-spec : {M : Type 1} → statement M
-fraction-of-spec =
+pub fraction_of_spec : {M : Type 1} → statement M
+fraction_of_spec =
     tie.close
     (tie.spec (λ c. search rules) (λ c. search rules) (λ c. search rules) (λ c. search rules) (λ c. search rules) (λ c. search rules)
     (λ c. search rules) trim-requires returns)

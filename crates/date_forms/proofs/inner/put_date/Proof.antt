@@ -12,26 +12,26 @@ use Rattle.date_forms.proofs.Texts.{date_length_is}
 use Rattle.date_forms.proofs.inner.put_date.Statement.{statement}
 use Rattle.date_forms.proofs.inner.put_date.Tie as tie
 
-same : (c : tie.After-struct-told) → to_z w32 (of_z w32 c.before.before.before.args.date.year) ≡ c.before.before.before.args.date.year
+same : (c : tie.After-struct_told-1) → to_z w32 (of_z w32 c.args.date.year) ≡ c.args.date.year
 same c = search rules
 
-year_wrote : (c : tie.After-put-year) →
-    Wrote c.before.before.before.before.args.out.now c.before.before.before.before.args.at
-    (year_text c.before.before.before.before.args.date.year) c.put-year.new.0 c.put-year.result
-year_wrote c = rw (same c.before) at c.put-year.ensures
+year_wrote : (c : tie.After-put_year-after_year) →
+    Wrote c.args.out.now c.args.at
+    (year_text c.args.date.year) c.put_year-after_year.new.0 c.put_year-after_year.result
+year_wrote c = rw (same c.before) at c.put_year-after_year.ensures
 
-put-year-requires : tie.Need-put-year-requires
+put-year-requires : tie.Need-put_year-after_year-requires
 put-year-requires c κs =
     let s = c.before.before.before in
     rw (same c) (omega (arith, date_length_is s.args.date))
 
-put-marked-requires : tie.Need-put-marked-requires
+put-marked-requires : tie.Need-put_marked-after_month-requires
 put-marked-requires c κs =
     let y = c.before.before.before.before in
     let s = y.before.before.before.before in
     omega (arith, date_length_is s.args.date, (year_wrote y).ends, (year_wrote y).sized)
 
-put-marked-requires-2 : tie.Need-put-marked-requires-2
+put-marked-requires-2 : tie.Need-put_marked-requires
 put-marked-requires-2 c κs =
     let m = c.before.before.before.before in
     let y = m.before.before.before.before.before in
@@ -41,8 +41,8 @@ put-marked-requires-2 c κs =
       date_length_is s.args.date,
       (year_wrote y).ends,
       (year_wrote y).sized,
-      m.put-marked.ensures.ends,
-      m.put-marked.ensures.sized,
+      m.put_marked-after_month.ensures.ends,
+      m.put_marked-after_month.ensures.sized,
       padded_length 2 s.args.date.month,
     )
 
@@ -52,9 +52,9 @@ returns c =
     let d = c.before.before in
     let m = d.before.before.before.before.before in
     let y = m.before.before.before.before.before in
-    after (year_wrote y) (after m.put-marked.ensures d.put-marked2.ensures)
+    after (year_wrote y) (after m.put_marked-after_month.ensures d.put_marked.ensures)
 
-pub put-date-spec : {M : Type 1} → statement M
-put-date-spec =
+pub put_date_spec : {M : Type 1} → statement M
+put_date_spec =
     tie.close
     (tie.spec put-year-requires (λ c. search rules) put-marked-requires (λ c. search rules) put-marked-requires-2 (λ c. search rules) returns)

@@ -6,14 +6,14 @@ use mathlib.Core.Path.{◌≡◌}
 use Rattle.date_math.proofs.inner.kept_months.Statement.{statement}
 use Rattle.date_math.proofs.inner.kept_months.Tie as tie
 
-abbrev invariant_loop : tie.invariant_loop
+abbrev invariant_loop : tie.invariant-loop-candidate
 invariant_loop gap candidate₀ tries₀ candidate tries = (32 * candidate ≤ gap + 32) × (candidate ≡ 1 + tries)
 
-abbrev decreases_loop : tie.decreases_loop
+abbrev decreases_loop : tie.decreases-loop-candidate
 decreases_loop gap candidate₀ tries₀ candidate tries = gap + 1 - candidate
 
-pub kept-months-spec : {M : Type 1} → statement M
-kept-months-spec =
+pub kept_months_spec : {M : Type 1} → statement M
+kept_months_spec =
     tie.close
     (tie.spec invariant_loop decreases_loop (λ c. omega arith) (λ c. omega arith) (λ c. omega arith) (λ c. omega arith) (λ c. omega arith) (λ c. omega arith)
     (λ c. omega arith) (λ c. omega arith))

@@ -9,13 +9,13 @@ use Rattle.date_math.proofs.inner.parts.Tie as tie
 
 returns : tie.Need-returns
 returns c =
-    let d = directed_is c.before.before.before.before.args.forward in
+    let d = directed_is c.args.forward in
     same_parts _ _ _ _ _ _ _ _
-    (to_z-of_z (record { sfits = c.before.before.before.directed.type-inv }) ∙ c.before.before.before.directed.ensures ∙ d _)
-    (to_z-of_z (record { sfits = c.before.before.directed2.type-inv }) ∙ c.before.before.directed2.ensures ∙ d _)
-    (to_z-of_z (record { sfits = c.before.directed3.type-inv }) ∙ c.before.directed3.ensures ∙ d _)
-    (to_z-of_z (record { sfits = c.directed4.type-inv }) ∙ c.directed4.ensures ∙ d _)
+    (to_z-of_z (record { sfits = c.directed.type_inv }) ∙ c.directed.ensures ∙ d _)
+    (to_z-of_z (record { sfits = c.directed-2.type_inv }) ∙ c.directed-2.ensures ∙ d _)
+    (to_z-of_z (record { sfits = c.directed-3.type_inv }) ∙ c.directed-3.ensures ∙ d _)
+    (to_z-of_z (record { sfits = c.directed-4.type_inv }) ∙ c.directed-4.ensures ∙ d _)
 
-pub parts-spec : {M : Type 1} → statement M
-parts-spec =
+pub parts_spec : {M : Type 1} → statement M
+parts_spec =
     tie.close (tie.spec (λ c κs. search rules) (λ c κs. search rules) (λ c κs. search rules) (λ c κs. search rules) returns)

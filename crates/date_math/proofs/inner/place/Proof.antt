@@ -10,12 +10,12 @@ use Rattle.date_math.proofs.inner.place.Tie as tie
 returns : tie.Need-returns
 returns c =
     let b = c.before.before in
-    let d = b.before.before.args.date in
+    let d = b.args.date in
     let back : to_z w32 (of_z w32 d.year) ≡ d.year = search rules in
-    (place_is d.year _ d.month d.day (sym back ∙ b.year-up.ensures.0), search rules)
+    (place_is d.year _ d.month d.day (sym back ∙ b.year_up.ensures.0), search rules)
 
-pub place-spec : {M : Type 1} → statement M
-place-spec =
+pub place_spec : {M : Type 1} → statement M
+place_spec =
     tie.close
     (tie.spec (λ c κs. search rules) (λ c. search rules) (λ c. search rules) (λ c. search rules) (λ c. search rules) (λ c. search rules)
     (λ c. search rules) returns)

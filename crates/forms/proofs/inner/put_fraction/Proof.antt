@@ -9,24 +9,24 @@ use Rattle.forms.proofs.Fractions.{pointed_none, pointed_some}
 use Rattle.forms.proofs.inner.put_fraction.Statement.{statement}
 use Rattle.forms.proofs.inner.put_fraction.Tie as tie
 
-returns : tie.Need-returns
+returns : tie.Need-returns-then-count-eq0
 returns c =
-    let a = c.before.before.args in
-    wrote_as (nothing _ _) (sym (pointed_none a.f.count a.f.value c.if1.true))
+    let a = c.args in
+    wrote_as (nothing _ _) (sym (pointed_none a.f.count a.f.value c.if-count-eq0.true))
 
-put-marked-requires : tie.Need-put-marked-requires
+put-marked-requires : tie.Need-put_marked-requires
 put-marked-requires c κs =
     let s = c.before.before.before in
     let f = s.args.f in
     let long = ap length (pointed_some f.count f.value (omega arith)) in
     omega (arith, long, padded_length f.count f.value)
 
-returns-2 : tie.Need-returns-2
+returns-2 : tie.Need-returns
 returns-2 c =
     let d = c.before.before in
-    let f = d.before.before.before.before.args.f in
-    wrote_as d.put-marked.ensures (sym (pointed_some f.count f.value (omega arith)))
+    let f = d.args.f in
+    wrote_as d.put_marked.ensures (sym (pointed_some f.count f.value (omega arith)))
 
-pub put-fraction-spec : {M : Type 1} → statement M
-put-fraction-spec =
+pub put_fraction_spec : {M : Type 1} → statement M
+put_fraction_spec =
     tie.close (tie.spec returns put-marked-requires (λ c. search rules) returns-2)

@@ -7,7 +7,7 @@ use Rattle.forms.proofs.inner.put_marked.Tie as tie
 returns : tie.Need-returns
 returns c =
     let d = c.before.before in
-    after d.before.before.before.before.put_byte.ensures d.put-padded.ensures
+    after d.put_byte-next.ensures d.put_padded.ensures
 
-pub put-marked-spec : {M : Type 1} → statement M
-put-marked-spec = tie.close (tie.spec (λ c κs. search rules) (λ c κs. search rules) (λ c. search rules) returns)
+pub put_marked_spec : {M : Type 1} → statement M
+put_marked_spec = tie.close (tie.spec (λ c κs. search rules) (λ c κs. search rules) (λ c. search rules) returns)

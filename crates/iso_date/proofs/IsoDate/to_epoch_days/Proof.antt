@@ -12,28 +12,28 @@ use Rattle.iso_date.proofs.Answers.{day_bad, day_far, day_given}
 use Rattle.iso_date.proofs.IsoDate.to_epoch_days.Statement.{statement}
 use Rattle.iso_date.proofs.IsoDate.to_epoch_days.Tie as tie
 
-returns : tie.Need-returns
-returns c = day_bad _ (sym c.before.is_valid.ensures ∙ not-true _ c.if1.true)
+returns : tie.Need-returns-then-not-is_valid
+returns c = day_bad _ (sym c.is_valid.ensures ∙ not-true _ c.if-not-is_valid.true)
 
 -- the fields have passed
-valid : (c : tie.Else1) → is_valid_iso_date c.before.before.args.self ≡ true
-valid c = sym c.before.is_valid.ensures ∙ not-false _ c.if1.false
+valid : (c : tie.Else1) → is_valid_iso_date c.args.self ≡ true
+valid c = sym c.is_valid.ensures ∙ not-false _ c.if-not-is_valid.false
 
 -- and the test of the range is that of the day number
-tested : (c : tie.After-is-balanced) → balanced (epoch_days c.before.before.before.before.args.self) ≡ c.is-balanced.result
+tested : (c : tie.After-is_balanced) → balanced (epoch_days c.args.self) ≡ c.is_balanced.result
 tested c =
-    let d = c.before.epoch-days in
-    sym (rw (to_z-of_z {w = w64} {z = d.result} (record { sfits = d.type-inv }), d.ensures.0) at c.is-balanced.ensures)
+    let d = c.epoch_days-day in
+    sym (rw (to_z-of_z {w = w64} {z = d.result} (record { sfits = d.type_inv }), d.ensures.0) at c.is_balanced.ensures)
 
-returns-2 : tie.Need-returns-2
-returns-2 c = day_far _ (valid c.before.before.before) (tested c.before ∙ not-true _ c.if2.true)
+returns-2 : tie.Need-returns-then-not-is_balanced
+returns-2 c = day_far _ (valid c.before.before.before) (tested c.before ∙ not-true _ c.if-not-is_balanced.true)
 
-returns-3 : tie.Need-returns-3
+returns-3 : tie.Need-returns
 returns-3 c =
-    let d = c.before.before.epoch-days in
-    ap given (to_z-of_z {w = w64} {z = d.result} (record { sfits = d.type-inv }) ∙ d.ensures.0) ∙
-    day_given _ (valid c.before.before.before) (tested c.before ∙ not-false _ c.if2.false)
+    let d = c.epoch_days-day in
+    ap given (to_z-of_z {w = w64} {z = d.result} (record { sfits = d.type_inv }) ∙ d.ensures.0) ∙
+    day_given _ (valid c.before.before.before) (tested c.before ∙ not-false _ c.if-not-is_balanced.false)
 
-pub to-epoch-days-spec : {M : Type 1} → statement M
-to-epoch-days-spec =
+pub to_epoch_days_spec : {M : Type 1} → statement M
+to_epoch_days_spec =
     tie.close (tie.spec (λ c κs. search rules) returns (λ c κs. valid c) (λ c κs. search rules) returns-2 returns-3)

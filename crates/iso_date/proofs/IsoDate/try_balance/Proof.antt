@@ -9,9 +9,9 @@ use Rattle.iso_date.proofs.IsoDate.try_balance.Tie as tie
 
 returns : tie.Need-returns
 returns c =
-    let f = c.before.ranges in
-    rw (to_z-of_z f.year, to_z-of_z f.month, to_z-of_z f.day) at c.balance-sum.ensures ∙
-    ap (balance_date c.before.args.year c.before.args.month) (+ℤ_idr c.before.args.day)
+    let f = c.ranges in
+    rw (to_z-of_z f.year, to_z-of_z f.month, to_z-of_z f.day) at c.balance_sum.ensures ∙
+    ap (balance_date c.args.year c.args.month) (+ℤ_idr c.args.day)
 
-pub try-balance-spec : {M : Type 1} → statement M
-try-balance-spec = tie.close (tie.spec (λ c κs. omega arith) returns)
+pub try_balance_spec : {M : Type 1} → statement M
+try_balance_spec = tie.close (tie.spec (λ c κs. omega arith) returns)

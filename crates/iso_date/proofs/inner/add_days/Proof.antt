@@ -5,17 +5,17 @@ use Rattle.iso_date.proofs.Answers.{weeks_fit, days_fit, moved_fits}
 use Rattle.iso_date.proofs.inner.add_days.Statement.{statement}
 use Rattle.iso_date.proofs.inner.add_days.Tie as tie
 
-mul-from-epoch-days : tie.Need-overflow-mul-from-epoch-days
+mul-from-epoch-days : tie.Need-overflow_mul-weeks
 mul-from-epoch-days c =
     let s = c.before in
     rw (to_z-of_z s.ranges.weeks) (weeks_fit s.args.weeks s.args.days s.requires.1)
 
-add-from-epoch-days : tie.Need-overflow-add-from-epoch-days
+add-from-epoch-days : tie.Need-overflow_add-days
 add-from-epoch-days c =
     let s = c.before in
     rw (to_z-of_z (mul-from-epoch-days c), to_z-of_z s.ranges.weeks, to_z-of_z s.ranges.days) (days_fit s.args.weeks s.args.days s.requires.1)
 
-add-from-epoch-days-2 : tie.Need-overflow-add-from-epoch-days-2
+add-from-epoch-days-2 : tie.Need-overflow_add-epoch_days
 add-from-epoch-days-2 c =
     let s = c.before in
     rw (
@@ -23,9 +23,9 @@ add-from-epoch-days-2 c =
       to_z-of_z (mul-from-epoch-days c),
       to_z-of_z s.ranges.weeks,
       to_z-of_z s.ranges.days,
-      to_z-of_z (record { sfits = c.epoch-days.type-inv }),
+      to_z-of_z (record { sfits = c.epoch_days.type_inv }),
     )
-    (moved_fits s.args.weeks s.args.days s.requires.1 c.epoch-days.result c.epoch-days.ensures.1)
+    (moved_fits s.args.weeks s.args.days s.requires.1 c.epoch_days.result c.epoch_days.ensures.1)
 
 returns : tie.Need-returns
 returns c =
@@ -37,12 +37,12 @@ returns c =
       to_z-of_z (mul-from-epoch-days e),
       to_z-of_z s.ranges.weeks,
       to_z-of_z s.ranges.days,
-      to_z-of_z (record { sfits = e.epoch-days.type-inv }),
-      e.epoch-days.ensures.0,
+      to_z-of_z (record { sfits = e.epoch_days.type_inv }),
+      e.epoch_days.ensures.0,
     ) at
-    c.from-epoch-days.ensures
+    c.from_epoch_days.ensures
 
-pub add-days-spec : {M : Type 1} → statement M
-add-days-spec =
+pub add_days_spec : {M : Type 1} → statement M
+add_days_spec =
     tie.close
     (tie.spec (λ c κs. search rules) mul-from-epoch-days add-from-epoch-days add-from-epoch-days-2 (λ c κs. search rules) returns)

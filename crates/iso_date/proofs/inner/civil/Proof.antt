@@ -9,31 +9,31 @@ use Rattle.iso_date.proofs.Dates.{civil_is}
 use Rattle.iso_date.proofs.inner.civil.Statement.{statement}
 use Rattle.iso_date.proofs.inner.civil.Tie as tie
 
-month-of-requires : tie.Need-month-of-requires
-month-of-requires c κs = rw (c.year-start.ensures.0, c.before.is-leap.ensures) (in_biased_year _ _ c.before.before.year-of.ensures)
+month-of-requires : tie.Need-month_of-i-requires
+month-of-requires c κs = rw (c.year_start.ensures.0, c.is_leap-leap.ensures) (in_biased_year _ _ c.year_of-u.ensures)
 
 lower32-requires : tie.Need-lower32-requires
 lower32-requires c κs =
     let b = c.before.before.before in
-    (omega arith, year_range _ _ b.year-of.ensures b.before.requires)
+    (omega arith, year_range _ _ b.year_of-u.ensures b.requires)
 
-cast-t12 : tie.Need-overflow-cast-t12
+cast-t12 : tie.Need-overflow_cast-result-2
 cast-t12 c =
-    let small = month_day_small _ _ _ c.before.before.month-of.ensures in
-    omega (arith, c.days-before.ensures)
+    let small = month_day_small _ _ _ c.month_of-i.ensures in
+    omega (arith, c.days_before.ensures)
 
 returns : tie.Need-returns
 returns c =
     let b = c.before.before.before in
-    let y = to_z-of_z (record { sfits = c.before.lower32.type-inv }) ∙ c.before.lower32.ensures in
-    rw (c.days-before.ensures.0, b.year-start.ensures.0, b.before.is-leap.ensures)
-    (civil_is _ _ _ _ b.before.before.year-of.ensures y (rw (
-      b.year-start.ensures.0,
-      b.before.is-leap.ensures,
-    ) at c.before.before.month-of.ensures))
+    let y = to_z-of_z (record { sfits = c.lower32.type_inv }) ∙ c.lower32.ensures in
+    rw (c.days_before.ensures.0, b.year_start.ensures.0, b.is_leap-leap.ensures)
+    (civil_is _ _ _ _ b.year_of-u.ensures y (rw (
+      b.year_start.ensures.0,
+      b.is_leap-leap.ensures,
+    ) at c.month_of-i.ensures))
 
-pub civil-spec : {M : Type 1} → statement M
-civil-spec =
+pub civil_spec : {M : Type 1} → statement M
+civil_spec =
     tie.close
     (tie.spec (λ c κs. search rules) (λ c κs. search rules) (λ c κs. search rules) (λ c. search rules) month-of-requires lower32-requires
     (λ c. search rules) (λ c. search rules) (λ c κs. search rules) (λ c. search rules) (λ c. search rules) cast-t12 returns)

@@ -9,9 +9,9 @@ use Rattle.iso_date.proofs.inner.days_in_month.Tie as tie
 returns : tie.Need-returns
 returns c =
     let s = c.before.before.before in
-    let e = c.month-days.ensures in
-    (length_of_year _ _ _ _ _ (sym (to_z-of_z s.ranges.year) ∙ c.before.before.year-up.ensures.0) c.before.is-leap.ensures e.0, e.1)
+    let e = c.month_days.ensures in
+    (length_of_year _ _ _ _ _ (sym (to_z-of_z s.ranges.year) ∙ c.year_up.ensures.0) c.is_leap-leap.ensures e.0, e.1)
 
-pub days-in-month-spec : {M : Type 1} → statement M
-days-in-month-spec =
+pub days_in_month_spec : {M : Type 1} → statement M
+days_in_month_spec =
     tie.close (tie.spec (λ c κs. search rules) (λ c κs. search rules) (λ c κs. search rules) returns)

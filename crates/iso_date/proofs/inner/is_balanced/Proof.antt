@@ -10,5 +10,5 @@ returns : tie.Need-returns
 unfolding balanced
 returns c = rw (to_z-of_z c.ranges.day) refl
 
-pub is-balanced-spec : {M : Type 1} → statement M
-is-balanced-spec = tie.close (tie.spec (λ c. search rules) returns)
+pub is_balanced_spec : {M : Type 1} → statement M
+is_balanced_spec = tie.close (tie.spec (λ c. search rules) returns)

@@ -7,5 +7,5 @@ use Rattle.iso_date.proofs.inner.is_leap.Tie as tie
 returns : tie.Need-returns
 returns c = sym (biased_leap c.args.u 20000000)
 
-pub is-leap-spec : {M : Type 1} → statement M
-is-leap-spec = tie.close (tie.spec returns)
+pub is_leap_spec : {M : Type 1} → statement M
+is_leap_spec = tie.close (tie.spec returns)

@@ -14,13 +14,13 @@ returns c =
     let m = b.before in
     let s = m.before.before in
     let d = c.lower.ensures in
-    rw (to_z-of_z (record { sfits = c.lower.type-inv })) (
-      month_first_is _ _ _ _ _ _ _ _ (sym (to_z-of_z s.ranges.year) ∙ m.before.year-up.ensures.0)
-          (sym (to_z-of_z s.ranges.month) ∙ m.month-up.ensures.0) b.balance-up.ensures a.month-start.ensures.0 d,
-      lowered_small _ _ _ d a.month-start.ensures.1 (omega arith),
+    rw (to_z-of_z (record { sfits = c.lower.type_inv })) (
+      month_first_is _ _ _ _ _ _ _ _ (sym (to_z-of_z s.ranges.year) ∙ m.year_up.ensures.0)
+          (sym (to_z-of_z s.ranges.month) ∙ m.month_up.ensures.0) b.balance_up-b.ensures a.month_start.ensures.0 d,
+      lowered_small _ _ _ d a.month_start.ensures.1 (omega arith),
     )
 
-pub month-first-spec : {M : Type 1} → statement M
-month-first-spec =
+pub month_first_spec : {M : Type 1} → statement M
+month_first_spec =
     tie.close
     (tie.spec (λ c κs. search rules) (λ c κs. search rules) (λ c κs. search rules) (λ c κs. search rules) (λ c κs. search rules) returns)

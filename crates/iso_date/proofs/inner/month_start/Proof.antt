@@ -7,11 +7,11 @@ use Rattle.iso_date.proofs.inner.month_start.Tie as tie
 
 returns : tie.Need-returns
 returns c =
-    let b = c.days-before.ensures in
-    let a = c.before.year-start.ensures in
-    let l = c.before.before.is-leap.ensures in
+    let b = c.days_before.ensures in
+    let a = c.year_start.ensures in
+    let l = c.is_leap-leap.ensures in
     (rw (a.0, b.0, l) (month_biased _ _), omega (arith, a.1, b.1))
 
-pub month-start-spec : {M : Type 1} → statement M
-month-start-spec =
+pub month_start_spec : {M : Type 1} → statement M
+month_start_spec =
     tie.close (tie.spec (λ c κs. search rules) (λ c κs. search rules) (λ c κs. search rules) (λ c. search rules) returns)

@@ -5,7 +5,7 @@ use Rattle.iso_date.proofs.inner.month_up.Statement.{statement}
 use Rattle.iso_date.proofs.inner.month_up.Tie as tie
 
 returns : tie.Need-returns
-returns c = rw (to_z-of_z c.before.ranges.month) at c.raise32.ensures
+returns c = rw (to_z-of_z c.ranges.month) at c.raise32.ensures
 
-pub month-up-spec : {M : Type 1} → statement M
-month-up-spec = tie.close (tie.spec (λ c κs. search rules) returns)
+pub month_up_spec : {M : Type 1} → statement M
+month_up_spec = tie.close (tie.spec (λ c κs. search rules) returns)

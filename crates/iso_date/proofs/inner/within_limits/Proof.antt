@@ -10,8 +10,8 @@ use Rattle.iso_date.proofs.inner.within_limits.Tie as tie
 
 returns : tie.Need-returns
 returns c =
-    let r = c.epoch-days in
-    rw (to_z-of_z (record { sfits = r.type-inv })) (limits_decide r.result ∙ ap (λ (z : ℤ). moment_within_limits z noon) r.ensures.0)
+    let r = c.epoch_days-day in
+    rw (to_z-of_z (record { sfits = r.type_inv })) (limits_decide r.result ∙ ap (λ (z : ℤ). moment_within_limits z noon) r.ensures.0)
 
-pub within-limits-spec : {M : Type 1} → statement M
-within-limits-spec = tie.close (tie.spec (λ c κs. search rules) returns)
+pub within_limits_spec : {M : Type 1} → statement M
+within_limits_spec = tie.close (tie.spec (λ c κs. search rules) returns)

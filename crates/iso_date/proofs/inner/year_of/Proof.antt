@@ -4,11 +4,11 @@ use Rattle.iso_date.proofs.Years.{year_exact, year_late}
 use Rattle.iso_date.proofs.inner.year_of.Statement.{statement}
 use Rattle.iso_date.proofs.inner.year_of.Tie as tie
 
-returns : tie.Need-returns
-returns c = year_late _ c.before.before.requires.1 c.before.before.requires.0 (rw c.before.year-start.ensures.0 at c.if1.true)
+returns : tie.Need-returns-then-n-year_start
+returns c = year_late _ c.requires.1 c.requires.0 (rw c.year_start.ensures.0 at c.if-n-year_start.true)
 
-returns-2 : tie.Need-returns-2
-returns-2 c = year_exact _ c.before.before.requires.1 c.before.before.requires.0 (rw c.before.year-start.ensures.0 at c.if1.false)
+returns-2 : tie.Need-returns
+returns-2 c = year_exact _ c.requires.1 c.requires.0 (rw c.year_start.ensures.0 at c.if-n-year_start.false)
 
-pub year-of-spec : {M : Type 1} → statement M
-year-of-spec = tie.close (tie.spec (λ c. search rules) (λ c. search rules) (λ c κs. search rules) (λ c. search rules) returns returns-2)
+pub year_of_spec : {M : Type 1} → statement M
+year_of_spec = tie.close (tie.spec (λ c. search rules) (λ c. search rules) (λ c κs. search rules) (λ c. search rules) returns returns-2)

@@ -11,8 +11,8 @@ returns : tie.Need-returns
 unfolding year_start
 returns c = (refl, omega (arith, fewer c.args.u))
 
-pub year-start-spec : {M : Type 1} → statement M
-year-start-spec =
+pub year_start_spec : {M : Type 1} → statement M
+year_start_spec =
     tie.close
     (tie.spec (λ c. search rules) (λ c. search rules) (λ c. search rules) (λ c. search rules) (λ c. search rules) (λ c. search rules)
     (λ c. search rules) returns)

@@ -5,7 +5,7 @@ use Rattle.iso_date.proofs.inner.year_up.Statement.{statement}
 use Rattle.iso_date.proofs.inner.year_up.Tie as tie
 
 returns : tie.Need-returns
-returns c = rw (to_z-of_z c.before.ranges.year) at c.raise32.ensures
+returns c = rw (to_z-of_z c.ranges.year) at c.raise32.ensures
 
-pub year-up-spec : {M : Type 1} → statement M
-year-up-spec = tie.close (tie.spec (λ c κs. search rules) returns)
+pub year_up_spec : {M : Type 1} → statement M
+year_up_spec = tie.close (tie.spec (λ c κs. search rules) returns)

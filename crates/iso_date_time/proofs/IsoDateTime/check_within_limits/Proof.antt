@@ -6,33 +6,33 @@ use Rattle.iso_date_time.proofs.Moments.{limits_date, limits_time, limits_out, l
 use Rattle.iso_date_time.proofs.IsoDateTime.check_within_limits.Statement.{statement}
 use Rattle.iso_date_time.proofs.IsoDateTime.check_within_limits.Tie as tie
 
-returns : tie.Need-returns
-returns c = limits_date _ (sym c.before.is_valid.ensures ∙ not-true _ c.if1.true)
+returns : tie.Need-returns-then-not-is_valid
+returns c = limits_date _ (sym c.is_valid.ensures ∙ not-true _ c.if-not-is_valid.true)
 
-returns-2 : tie.Need-returns-2
+returns-2 : tie.Need-returns-then-not-is_valid-2
 returns-2 c =
     let e = c.before.before.before in
-    limits_time _ (sym e.before.is_valid.ensures ∙ not-false _ e.if1.false) (sym c.before.is-valid2.ensures ∙ not-true _ c.if2.true)
+    limits_time _ (sym e.is_valid.ensures ∙ not-false _ e.if-not-is_valid.false) (sym c.is_valid-2.ensures ∙ not-true _ c.if-not-is_valid-2.true)
 
-within-limits-requires : tie.Need-within-limits-requires
+within-limits-requires : tie.Need-within_limits-requires
 within-limits-requires c κs =
     let e = c.before.before.before in
-    (sym e.before.is_valid.ensures ∙ not-false _ e.if1.false, sym c.before.is-valid2.ensures ∙ not-false _ c.if2.false)
+    (sym e.is_valid.ensures ∙ not-false _ e.if-not-is_valid.false, sym c.is_valid-2.ensures ∙ not-false _ c.if-not-is_valid-2.false)
 
-returns-3 : tie.Need-returns-3
+returns-3 : tie.Need-returns-then-within_limits
 returns-3 c =
     let g = c.before.before in
     let e = g.before.before.before in
-    limits_within _ (sym e.before.is_valid.ensures ∙ not-false _ e.if1.false) (sym g.before.is-valid2.ensures ∙ not-false _ g.if2.false)
-    (sym c.before.within-limits.ensures ∙ c.if3.true)
+    limits_within _ (sym e.is_valid.ensures ∙ not-false _ e.if-not-is_valid.false) (sym g.is_valid-2.ensures ∙ not-false _ g.if-not-is_valid-2.false)
+    (sym c.within_limits.ensures ∙ c.if-within_limits.true)
 
-returns-4 : tie.Need-returns-4
+returns-4 : tie.Need-returns-else-within_limits
 returns-4 c =
     let g = c.before.before in
     let e = g.before.before.before in
-    limits_out _ (sym e.before.is_valid.ensures ∙ not-false _ e.if1.false) (sym g.before.is-valid2.ensures ∙ not-false _ g.if2.false)
-    (sym c.before.within-limits.ensures ∙ c.if3.false)
+    limits_out _ (sym e.is_valid.ensures ∙ not-false _ e.if-not-is_valid.false) (sym g.is_valid-2.ensures ∙ not-false _ g.if-not-is_valid-2.false)
+    (sym c.within_limits.ensures ∙ c.if-within_limits.false)
 
-pub check-within-limits-spec : {M : Type 1} → statement M
-check-within-limits-spec =
+pub check_within_limits_spec : {M : Type 1} → statement M
+check_within_limits_spec =
     tie.close (tie.spec (λ c κs. search rules) returns (λ c κs. search rules) returns-2 within-limits-requires returns-3 returns-4)

@@ -7,35 +7,35 @@ use Rattle.iso_date_time.proofs.Instants.{no_instant, no_offset, instant_given}
 use Rattle.iso_date_time.proofs.IsoDateTime.from_epoch_nanos.Statement.{statement}
 use Rattle.iso_date_time.proofs.IsoDateTime.from_epoch_nanos.Tie as tie
 
-returns : tie.Need-returns
+returns : tie.Need-returns-then-not-is_instant
 returns c =
     let s = c.before.before in
-    let e = rw (to_z-of_z s.ranges.day, to_z-of_z s.ranges.nanosecond) at c.before.is-instant.ensures in
-    no_instant _ _ _ (sym e ∙ not-true _ c.if1.true)
+    let e = rw (to_z-of_z s.ranges.day, to_z-of_z s.ranges.nanosecond) at c.is_instant.ensures in
+    no_instant _ _ _ (sym e ∙ not-true _ c.if-not-is_instant.true)
 
-returns-2 : tie.Need-returns-2
+returns-2 : tie.Need-returns-then-not-is_offset
 returns-2 c =
     let i = c.before.before in
     let s = i.before.before in
-    let e = rw (to_z-of_z s.ranges.day, to_z-of_z s.ranges.nanosecond) at i.before.is-instant.ensures in
-    let f = rw (to_z-of_z s.ranges.offset) at c.before.is-offset.ensures in
-    no_offset _ _ _ (sym e ∙ not-false _ i.if1.false) (sym f ∙ not-true _ c.if2.true)
+    let e = rw (to_z-of_z s.ranges.day, to_z-of_z s.ranges.nanosecond) at i.is_instant.ensures in
+    let f = rw (to_z-of_z s.ranges.offset) at c.is_offset.ensures in
+    no_offset _ _ _ (sym e ∙ not-false _ i.if-not-is_instant.false) (sym f ∙ not-true _ c.if-not-is_offset.true)
 
-from-instant-requires : tie.Need-from-instant-requires
+from-instant-requires : tie.Need-from_instant-requires
 from-instant-requires c κs =
     let i = c.before.before in
-    (sym i.before.is-instant.ensures ∙ not-false _ i.if1.false, sym c.before.is-offset.ensures ∙ not-false _ c.if2.false)
+    (sym i.is_instant.ensures ∙ not-false _ i.if-not-is_instant.false, sym c.is_offset.ensures ∙ not-false _ c.if-not-is_offset.false)
 
-returns-3 : tie.Need-returns-3
+returns-3 : tie.Need-returns
 returns-3 c =
     let o = c.before in
     let i = o.before.before in
     let s = i.before.before in
-    let e = rw (to_z-of_z s.ranges.day, to_z-of_z s.ranges.nanosecond) at i.before.is-instant.ensures in
-    let f = rw (to_z-of_z s.ranges.offset) at o.before.is-offset.ensures in
-    let g = rw (to_z-of_z s.ranges.day, to_z-of_z s.ranges.nanosecond, to_z-of_z s.ranges.offset) at c.from-instant.ensures in
-    instant_given _ _ _ _ (sym e ∙ not-false _ i.if1.false) (sym f ∙ not-false _ o.if2.false) g
+    let e = rw (to_z-of_z s.ranges.day, to_z-of_z s.ranges.nanosecond) at i.is_instant.ensures in
+    let f = rw (to_z-of_z s.ranges.offset) at o.is_offset.ensures in
+    let g = rw (to_z-of_z s.ranges.day, to_z-of_z s.ranges.nanosecond, to_z-of_z s.ranges.offset) at c.from_instant.ensures in
+    instant_given _ _ _ _ (sym e ∙ not-false _ i.if-not-is_instant.false) (sym f ∙ not-false _ o.if-not-is_offset.false) g
 
-pub from-epoch-nanos-spec : {M : Type 1} → statement M
-from-epoch-nanos-spec =
+pub from_epoch_nanos_spec : {M : Type 1} → statement M
+from_epoch_nanos_spec =
     tie.close (tie.spec (λ c κs. search rules) returns (λ c κs. search rules) returns-2 from-instant-requires returns-3)

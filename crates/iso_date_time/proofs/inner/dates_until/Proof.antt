@@ -8,12 +8,12 @@ use Rattle.iso_date_time.proofs.inner.dates_until.Statement.{statement}
 use Rattle.iso_date_time.proofs.inner.dates_until.Tie as tie
 
 difference-requires : tie.Need-difference-requires
-difference-requires c κs = (c.before.requires.0, rw c.civil.ensures (back_valid _))
+difference-requires c κs = (c.requires.0, rw c.civil.ensures (back_valid _))
 
 returns : tie.Need-returns
 returns c =
-    let s = c.before.before.args in
-    c.difference.ensures ∙ ap (λ (d : IsoDate). difference_of_dates s.one d s.unit) c.before.civil.ensures
+    let s = c.args in
+    c.difference.ensures ∙ ap (λ (d : IsoDate). difference_of_dates s.one d s.unit) c.civil.ensures
 
-pub dates-until-spec : {M : Type 1} → statement M
-dates-until-spec = tie.close (tie.spec (λ c κs. search rules) difference-requires returns)
+pub dates_until_spec : {M : Type 1} → statement M
+dates_until_spec = tie.close (tie.spec (λ c κs. search rules) difference-requires returns)

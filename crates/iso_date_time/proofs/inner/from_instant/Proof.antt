@@ -10,11 +10,11 @@ use Rattle.iso_date_time.proofs.Instants.{read_instant, offset_room, day_room, s
 use Rattle.iso_date_time.proofs.inner.from_instant.Statement.{statement}
 use Rattle.iso_date_time.proofs.inner.from_instant.Tie as tie
 
-to-natural-requires : tie.Need-to-natural-requires
+to-natural-requires : tie.Need-to_natural-requires
 to-natural-requires c κs = rw (to_z-of_z c.ranges.nanosecond) (read_instant _ _ c.requires.0).ns_low
 
 raise-requires : tie.Need-raise-requires
-raise-requires c κs = rw (to_z-of_z c.before.ranges.offset) (offset_room _ c.before.requires.1)
+raise-requires c κs = rw (to_z-of_z c.ranges.offset) (offset_room _ c.requires.1)
 
 raise-requires-2 : tie.Need-raise-requires-2
 raise-requires-2 c κs =
@@ -22,37 +22,37 @@ raise-requires-2 c κs =
     rw (to_z-of_z s.ranges.day) (day_room _ _ (read_instant _ _ s.requires.0))
 
 -- the three numbers as they were raised
-raised : (c : tie.After-raise2) →
-    (c.before.before.before.args.day ≡ c.raise2.result ⊖ day_bias) ×
-    ((c.before.before.before.args.nanosecond ≡ pos c.before.before.to-natural.result) ×
-    (c.before.before.before.args.offset ≡ c.before.raise.result ⊖ ns_per_day))
+raised : (c : tie.After-raise-2) →
+    (c.args.day ≡ c.raise-2.result ⊖ day_bias) ×
+    ((c.args.nanosecond ≡ pos c.to_natural.result) ×
+    (c.args.offset ≡ c.raise.result ⊖ ns_per_day))
 raised c =
-    let f = c.before.before.before.ranges in (
-      sym (to_z-of_z f.day) ∙ c.raise2.ensures.0,
-      (sym (to_z-of_z f.nanosecond) ∙ c.before.before.to-natural.ensures.0, sym (to_z-of_z f.offset) ∙ c.before.raise.ensures.0),
+    let f = c.ranges in (
+      sym (to_z-of_z f.day) ∙ c.raise-2.ensures.0,
+      (sym (to_z-of_z f.nanosecond) ∙ c.to_natural.ensures.0, sym (to_z-of_z f.offset) ∙ c.raise.ensures.0),
     )
 
-sub-d : tie.Need-overflow-sub-d
+sub-d : tie.Need-overflow_sub-d
 sub-d c =
-    let p = c.before.before.before.requires in
+    let p = c.requires in
     let e = raised c in
     (sum_bounds _ _ _ _ _ _ p.0 p.1 e.0 e.1.0 e.1.1).0
 
 civil-requires : tie.Need-civil-requires
 civil-requires c κs =
-    let p = c.before.before.before.requires in
+    let p = c.requires in
     let e = raised c in
     (sum_bounds _ _ _ _ _ _ p.0 p.1 e.0 e.1.0 e.1.1).1
 
 returns : tie.Need-returns
 returns c =
     let r = c.before.before in
-    let p = r.before.before.before.requires in
+    let p = r.requires in
     let e = raised r in
-    instant_is _ _ _ _ _ _ _ _ p.0 p.1 e.0 e.1.0 e.1.1 c.before.civil.ensures c.time-at.ensures.0 c.time-at.ensures.1
+    instant_is _ _ _ _ _ _ _ _ p.0 p.1 e.0 e.1.0 e.1.1 c.civil.ensures c.time_at.ensures.0 c.time_at.ensures.1
 
-pub from-instant-spec : {M : Type 1} → statement M
-from-instant-spec =
+pub from_instant_spec : {M : Type 1} → statement M
+from_instant_spec =
     tie.close
     (tie.spec to-natural-requires raise-requires (λ c. search rules) raise-requires-2 (λ c. search rules) sub-d civil-requires (λ c κs. search rules)
     returns)

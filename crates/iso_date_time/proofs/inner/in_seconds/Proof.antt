@@ -9,12 +9,12 @@ use Rattle.iso_date_time.proofs.inner.in_seconds.Tie as tie
 
 returns : tie.Need-returns
 returns c =
-    let s = c.before.before.args in
+    let s = c.args in
     let d = directed_is s.forward in
     in_seconds_is s.forward s.days s.nanoseconds _ _
-    (to_z-of_z (record { sfits = c.before.directed.type-inv }) ∙ c.before.directed.ensures ∙ d _)
-    (to_z-of_z (record { sfits = c.directed2.type-inv }) ∙ c.directed2.ensures ∙ d _)
+    (to_z-of_z (record { sfits = c.directed.type_inv }) ∙ c.directed.ensures ∙ d _)
+    (to_z-of_z (record { sfits = c.directed-2.type_inv }) ∙ c.directed-2.ensures ∙ d _)
 
-pub in-seconds-spec : {M : Type 1} → statement M
-in-seconds-spec =
+pub in_seconds_spec : {M : Type 1} → statement M
+in_seconds_spec =
     tie.close (tie.spec (λ c. search rules) (λ c. search rules) (λ c κs. search rules) (λ c κs. search rules) returns)

@@ -8,5 +8,5 @@ use Rattle.iso_date_time.proofs.inner.is_instant.Tie as tie
 returns : tie.Need-returns
 returns c = rw (to_z-of_z c.ranges.day, to_z-of_z c.ranges.nanosecond) (instant_decides _ _)
 
-pub is-instant-spec : {M : Type 1} → statement M
-is-instant-spec = tie.close (tie.spec (λ c. search rules) returns)
+pub is_instant_spec : {M : Type 1} → statement M
+is_instant_spec = tie.close (tie.spec (λ c. search rules) returns)

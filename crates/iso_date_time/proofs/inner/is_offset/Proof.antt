@@ -8,5 +8,5 @@ use Rattle.iso_date_time.proofs.inner.is_offset.Tie as tie
 returns : tie.Need-returns
 returns c = rw (to_z-of_z c.ranges.offset) (offset_decides _)
 
-pub is-offset-spec : {M : Type 1} → statement M
-is-offset-spec = tie.close (tie.spec (λ c. search rules) returns)
+pub is_offset_spec : {M : Type 1} → statement M
+is_offset_spec = tie.close (tie.spec (λ c. search rules) returns)

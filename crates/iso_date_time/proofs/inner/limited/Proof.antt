@@ -4,11 +4,11 @@ use mathlib.Core.Path.{sym, ◌∙◌}
 use Rattle.iso_date_time.proofs.inner.limited.Statement.{statement}
 use Rattle.iso_date_time.proofs.inner.limited.Tie as tie
 
-returns : tie.Need-returns
-returns c = rw (sym c.before.within-limits.ensures ∙ c.if1.true)
+returns : tie.Need-returns-then-within_limits
+returns c = rw (sym c.within_limits.ensures ∙ c.if-within_limits.true)
 
-returns-2 : tie.Need-returns-2
-returns-2 c = rw (sym c.before.within-limits.ensures ∙ c.if1.false)
+returns-2 : tie.Need-returns
+returns-2 c = rw (sym c.within_limits.ensures ∙ c.if-within_limits.false)
 
-pub limited-spec : {M : Type 1} → statement M
-limited-spec = tie.close (tie.spec (λ c κs. search rules) returns returns-2)
+pub limited_spec : {M : Type 1} → statement M
+limited_spec = tie.close (tie.spec (λ c κs. search rules) returns returns-2)

@@ -10,11 +10,11 @@ use Rattle.iso_date_time.proofs.inner.within_limits.Tie as tie
 
 returns : tie.Need-returns
 returns c =
-    let n = c.nanoseconds-of in
-    let r = c.before.epoch-days in
-    rw (to_z-of_z {w = w64} {z = r.result} (record { sfits = r.type-inv }))
+    let n = c.nanoseconds_of-ns in
+    let r = c.epoch_days-day in
+    rw (to_z-of_z {w = w64} {z = r.result} (record { sfits = r.type_inv }))
     (moment_decides r.result n.result n.ensures.1 ∙ ap₂ moment_within_limits r.ensures.0 n.ensures.0)
 
-pub within-limits-spec : {M : Type 1} → statement M
-within-limits-spec =
+pub within_limits_spec : {M : Type 1} → statement M
+within_limits_spec =
     tie.close (tie.spec (λ c κs. search rules) (λ c κs. search rules) (λ c. search rules) (λ c. search rules) (λ c. search rules) returns)

@@ -8,28 +8,28 @@ use Rattle.iso_time.proofs.Checks.{all_within}
 use Rattle.iso_time.proofs.IsoTime.balance.Statement.{statement}
 use Rattle.iso_time.proofs.IsoTime.balance.Tie as tie
 
-bounded_is : (c : tie.After-are-bounded) →
-    let a = c.before.args in
-    c.are-bounded.result ≡ all_bounded a.hour a.minute a.second a.millisecond a.microsecond a.nanosecond
+bounded_is : (c : tie.After-are_bounded) →
+    let a = c.args in
+    c.are_bounded.result ≡ all_bounded a.hour a.minute a.second a.millisecond a.microsecond a.nanosecond
 bounded_is c =
-    let f = c.before.ranges in
+    let f = c.ranges in
     rw (to_z-of_z f.hour, to_z-of_z f.minute, to_z-of_z f.second, to_z-of_z f.millisecond, to_z-of_z f.microsecond, to_z-of_z f.nanosecond) at
-    c.are-bounded.ensures
+    c.are_bounded.ensures
 
-returns : tie.Need-returns
+returns : tie.Need-returns-then-not-are_bounded
 unfolding balance_time_fields
-returns c = rw (sym (bounded_is c.before) ∙ not-true _ c.if1.true)
+returns c = rw (sym (bounded_is c.before) ∙ not-true _ c.if-not-are_bounded.true)
 
 balance-requires : tie.Need-balance-requires
-balance-requires c κs = all_within _ _ _ _ _ _ (sym c.before.are-bounded.ensures ∙ not-false _ c.if1.false)
+balance-requires c κs = all_within _ _ _ _ _ _ (sym c.are_bounded.ensures ∙ not-false _ c.if-not-are_bounded.false)
 
-returns-2 : tie.Need-returns-2
+returns-2 : tie.Need-returns
 unfolding balance_time_fields
 returns-2 c =
     let b = c.before.before in
-    let f = b.before.ranges in
-    rw (c.balance.ensures, sym (bounded_is b) ∙ not-false _ c.before.if1.false)
+    let f = b.ranges in
+    rw (c.balance.ensures, sym (bounded_is b) ∙ not-false _ c.if-not-are_bounded.false)
     (rw (to_z-of_z f.hour, to_z-of_z f.minute, to_z-of_z f.second, to_z-of_z f.millisecond, to_z-of_z f.microsecond, to_z-of_z f.nanosecond))
 
-pub balance-spec : {M : Type 1} → statement M
-balance-spec = tie.close (tie.spec (λ c κs. search rules) returns balance-requires returns-2)
+pub balance_spec : {M : Type 1} → statement M
+balance_spec = tie.close (tie.spec (λ c κs. search rules) returns balance-requires returns-2)

@@ -6,5 +6,5 @@ use Rattle.iso_time.proofs.IsoTime.is_valid.Tie as tie
 returns : tie.Need-returns
 returns c = time_tests _
 
-pub is-valid-spec : {M : Type 1} → statement M
-is-valid-spec = tie.close (tie.spec returns)
+pub is_valid_spec : {M : Type 1} → statement M
+is_valid_spec = tie.close (tie.spec returns)

@@ -5,17 +5,17 @@ use Rattle.iso_time.specs.Paper.{regulate_time}
 use Rattle.iso_time.proofs.IsoTime.new.Statement.{statement}
 use Rattle.iso_time.proofs.IsoTime.new.Tie as tie
 
-returns : tie.Need-returns
+returns : tie.Need-returns-in-Constrain
 unfolding regulate_time
-returns c = rw (c.before.enum_told.given.1, c.constrain.ensures)
+returns c = rw (c.in-Constrain.is, c.constrain.ensures)
 
-returns-2 : tie.Need-returns-2
+returns-2 : tie.Need-returns-then-is_valid
 unfolding regulate_time
-returns-2 c = rw (c.before.before.enum-told2.given.1, sym c.before.is_valid.ensures ∙ c.if1.true)
+returns-2 c = rw (c.in-Reject.is, sym c.is_valid.ensures ∙ c.if-is_valid.true)
 
-returns-3 : tie.Need-returns-3
+returns-3 : tie.Need-returns-else-is_valid
 unfolding regulate_time
-returns-3 c = rw (c.before.before.enum-told2.given.1, sym c.before.is_valid.ensures ∙ c.if1.false)
+returns-3 c = rw (c.in-Reject.is, sym c.is_valid.ensures ∙ c.if-is_valid.false)
 
 pub new_spec : {M : Type 1} → statement M
 new_spec =

@@ -11,16 +11,16 @@ returns c =
     let s = c.before.before.before.before.before.before.before in
     let f = s.ranges in
     balance_is _ _ _ _ _ _ _ _ _ _ _ _
-    (sym (to_z-of_z f.nanosecond) ∙ c.before.before.before.before.before.before.field-up.ensures.0)
-    (sym (to_z-of_z f.microsecond) ∙ c.before.before.before.before.before.field-up2.ensures.0)
-    (sym (to_z-of_z f.millisecond) ∙ c.before.before.before.before.field-up3.ensures.0)
-    (sym (to_z-of_z f.second) ∙ c.before.before.before.field-up4.ensures.0)
-    (sym (to_z-of_z f.minute) ∙ c.before.before.field-up5.ensures.0)
-    (sym (to_z-of_z f.hour) ∙ c.before.field-up6.ensures.0)
-    _ (to_z-of_z (record { sfits = c.lower.type-inv }) ∙ c.lower.ensures)
+    (sym (to_z-of_z f.nanosecond) ∙ c.field_up-nanos.ensures.0)
+    (sym (to_z-of_z f.microsecond) ∙ c.field_up.ensures.0)
+    (sym (to_z-of_z f.millisecond) ∙ c.field_up-2.ensures.0)
+    (sym (to_z-of_z f.second) ∙ c.field_up-3.ensures.0)
+    (sym (to_z-of_z f.minute) ∙ c.field_up-4.ensures.0)
+    (sym (to_z-of_z f.hour) ∙ c.field_up-5.ensures.0)
+    _ (to_z-of_z (record { sfits = c.lower.type_inv }) ∙ c.lower.ensures)
 
-pub balance-spec : {M : Type 1} → statement M
-balance-spec =
+pub balance_spec : {M : Type 1} → statement M
+balance_spec =
     tie.close
     (tie.spec (λ c κs. search rules) (λ c κs. search rules) (λ c. search rules) (λ c κs. search rules) (λ c. search rules) (λ c κs. search rules)
     (λ c. search rules) (λ c κs. search rules) (λ c. search rules) (λ c κs. search rules) (λ c. search rules) (λ c κs. search rules)

@@ -13,9 +13,9 @@ use Rattle.iso_time.proofs.inner.carried.Tie as tie
 returns : tie.Need-returns
 returns c =
     record {
-      exactly = rw (to_z_pos w64 {n = c.before.args.n / ns_per_day} (omega arith)) (ap pos (omega (arith, c.time-at.ensures.0)));
-      valid = c.time-at.ensures.1;
+      exactly = rw (to_z_pos w64 {n = c.args.n / ns_per_day} (omega arith)) (ap pos (omega (arith, c.time_at.ensures.0)));
+      valid = c.time_at.ensures.1;
     }
 
-pub carried-spec : {M : Type 1} → statement M
-carried-spec = tie.close (tie.spec (λ c. search rules) (λ c κs. search rules) returns)
+pub carried_spec : {M : Type 1} → statement M
+carried_spec = tie.close (tie.spec (λ c. search rules) (λ c κs. search rules) returns)

@@ -5,9 +5,9 @@ use Rattle.iso_time.proofs.inner.dividend_of.Statement.{statement}
 use Rattle.iso_time.proofs.inner.dividend_of.Tie as tie
 
 returns : tie.Need-returns
-returns c = rw c.rank.ensures (row c.before.args.unit).dividend_at
+returns c = rw c.rank-place.ensures (row c.args.unit).dividend_at
 
-pub dividend-of-spec : {M : Type 1} → statement M
-dividend-of-spec =
+pub dividend_of_spec : {M : Type 1} → statement M
+dividend_of_spec =
     tie.close
-    (tie.spec (λ c κs. search rules) (λ c. search rules) (λ c. search rules) (λ c. rw c.rank.ensures (row c.before.args.unit).in_table) returns)
+    (tie.spec (λ c κs. search rules) (λ c. search rules) (λ c. search rules) (λ c. rw c.rank-place.ensures (row c.args.unit).in_table) returns)

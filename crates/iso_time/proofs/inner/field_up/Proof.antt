@@ -17,11 +17,11 @@ raise-requires c κs =
 
 returns : tie.Need-returns
 returns c =
-    let x = c.before.args.x in
+    let x = c.args.x in
     let b = size_of x in
     let r = range_of x in
-    let e = sym (to_z-of_z c.before.ranges.x) ∙ c.raise.ensures.0 in
+    let e = sym (to_z-of_z c.ranges.x) ∙ c.raise.ensures.0 in
     (e, omega (arith, ints, read_diff c.raise.result field_bias))
 
-pub field-up-spec : {M : Type 1} → statement M
-field-up-spec = tie.close (tie.spec raise-requires returns)
+pub field_up_spec : {M : Type 1} → statement M
+field_up_spec = tie.close (tie.spec raise-requires returns)

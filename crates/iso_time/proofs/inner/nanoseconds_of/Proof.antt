@@ -12,8 +12,8 @@ returns c =
     let s = c.before.before.before.before.before.before in
     (omega arith, omega (arith, below_day_lem s.args.t (read_valid s.args.t s.requires)))
 
-pub nanoseconds-of-spec : {M : Type 1} → statement M
-nanoseconds-of-spec =
+pub nanoseconds_of_spec : {M : Type 1} → statement M
+nanoseconds_of_spec =
     tie.close
     (tie.spec (λ c. search rules) (λ c. search rules) (λ c. search rules) (λ c. search rules) (λ c. search rules) (λ c. search rules)
     (λ c. search rules) (λ c. search rules) (λ c. search rules) (λ c. search rules) (λ c. search rules) (λ c. search rules) (λ c. search rules)

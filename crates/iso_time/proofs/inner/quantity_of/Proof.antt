@@ -11,13 +11,13 @@ use Rattle.iso_time.proofs.inner.quantity_of.Tie as tie
 returns : tie.Need-returns
 returns c =
     let n = c.before.before in
-    rw (c.before.dividend-of.ensures, c.length-of.ensures, n.nanoseconds-of.ensures.0)
-    (quantity_is _ _ (read_valid _ n.before.requires.0) n.before.requires.1, mod-le _ _)
+    rw (c.dividend_of.ensures, c.length_of.ensures, n.nanoseconds_of.ensures.0)
+    (quantity_is _ _ (read_valid _ n.requires.0) n.requires.1, mod-le _ _)
 
-pub quantity-of-spec : {M : Type 1} → statement M
-quantity-of-spec =
+pub quantity_of_spec : {M : Type 1} → statement M
+quantity_of_spec =
     tie.close
     (tie.spec (λ c κs. search rules) (λ c κs. search rules) (λ c κs. search rules)
-    (λ c. record { fits = rw (c.before.dividend-of.ensures, c.length-of.ensures) (omega (arith, (row c.before.before.before.args.unit).most)) })
-    (λ c. rw (c.before.dividend-of.ensures, c.length-of.ensures) (lt_of_lt_of_le c.before.before.before.requires.1 (row _).least))
+    (λ c. record { fits = rw (c.dividend_of.ensures, c.length_of.ensures) (omega (arith, (row c.args.unit).most)) })
+    (λ c. rw (c.dividend_of.ensures, c.length_of.ensures) (lt_of_lt_of_le c.requires.1 (row _).least))
     returns)

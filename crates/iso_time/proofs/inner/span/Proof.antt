@@ -6,7 +6,7 @@ use Rattle.iso_time.proofs.Checks.{until_is, until_fits, seconds_fit, nanosecond
 use Rattle.iso_time.proofs.inner.span.Statement.{statement}
 use Rattle.iso_time.proofs.inner.span.Tie as tie
 
-sub-n : tie.Need-overflow-sub-n
+sub-n : tie.Need-overflow_sub-n
 sub-n c = until_fits _ _ c.requires.0 c.requires.1
 
 div-t4 : tie.Need-nonzero-div-t4
@@ -16,5 +16,5 @@ returns : tie.Need-returns
 returns c =
     rw (to_z-of_z (sub-n c)) (rw (to_z-of_z (seconds_fit _ (sub-n c)), to_z-of_z (nanoseconds_fit _ (sub-n c)), until_is _ _ c.requires.0 c.requires.1))
 
-pub span-spec : {M : Type 1} → statement M
-span-spec = tie.close (tie.spec (λ c. search rules) (λ c. search rules) sub-n div-t4 div-t4 returns)
+pub span_spec : {M : Type 1} → statement M
+span_spec = tie.close (tie.spec (λ c. search rules) (λ c. search rules) sub-n div-t4 div-t4 returns)

@@ -7,7 +7,7 @@ use Rattle.iso_time.proofs.inner.time_at.Tie as tie
 returns : tie.Need-returns
 returns c = time_at_is _ c.requires
 
-pub time-at-spec : {M : Type 1} → statement M
-time-at-spec =
+pub time_at_spec : {M : Type 1} → statement M
+time_at_spec =
     tie.close
     (tie.spec (λ c. search rules) (λ c. search rules) (λ c. search rules) (λ c. search rules) (λ c. search rules) (λ c. search rules) returns)

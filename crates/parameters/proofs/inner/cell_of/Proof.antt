@@ -5,15 +5,15 @@ use Rattle.parameters.specs.Letters.{cell_of}
 use Rattle.parameters.proofs.inner.cell_of.Statement.{statement}
 use Rattle.parameters.proofs.inner.cell_of.Tie as tie
 
-returns : tie.Need-returns
-returns c = sym (ap cell_of c.before.x.given.1)
+returns : tie.Need-returns-in-Plus
+returns c = sym (ap cell_of c.in-Plus.is)
 
-returns-2 : tie.Need-returns-2
-returns-2 c = sym (ap cell_of c.before.x2.given.1)
+returns-2 : tie.Need-returns-in-Minus
+returns-2 c = sym (ap cell_of c.in-Minus.is)
 
-returns-3 : tie.Need-returns-3
-returns-3 c = sym (ap cell_of c.enum_told.given.1)
+returns-3 : tie.Need-returns-in-Not
+returns-3 c = sym (ap cell_of c.in-Not.is)
 
-pub cell-of-spec : {M : Type 1} → statement M
-cell-of-spec =
+pub cell_of_spec : {M : Type 1} → statement M
+cell_of_spec =
     tie.close (tie.spec (λ c. search rules) (λ c. search rules) (λ c. search rules) returns returns-2 returns-3)

@@ -16,9 +16,9 @@ long-requires : tie.Need-long-requires
 long-requires c κs = wider (signed 32) (signed 64) c.args.n c.args.i refl refl c.requires
 
 back : (c : tie.After-long) → to_z w64 (of_z w64 c.long.result) ≡ c.long.result
-back c = to_z-of_z (record { sfits = c.long.type-inv })
+back c = to_z-of_z (record { sfits = c.long.type_inv })
 
-cast-result : tie.Need-overflow-cast-result
+cast-result : tie.Need-overflow_cast-result
 cast-result c =
     let s = c.before in
     let k = in_kind (signed 32) [] s.args.n s.args.i s.requires in
@@ -27,5 +27,5 @@ cast-result c =
 returns : tie.Need-returns
 returns c = to_z-of_z (cast-result c) ∙ back c ∙ c.long.ensures
 
-pub int-spec : {M : Type 1} → statement M
-int-spec = tie.close (tie.spec long-requires cast-result returns)
+pub int_spec : {M : Type 1} → statement M
+int_spec = tie.close (tie.spec long-requires cast-result returns)

@@ -14,36 +14,36 @@ use Rattle.parameters.proofs.Laws.{inside, in_array, in_kind, cell_there, size_b
 use Rattle.parameters.proofs.inner.long.Statement.{statement}
 use Rattle.parameters.proofs.inner.long.Tie as tie
 
-mul-c : tie.Need-overflow-mul-c
-mul-c c = omega (arith, in_array (signed 64) [] c.before.args.n c.before.args.i c.before.requires)
+mul-c : tie.Need-offset_bounds-cells-i
+mul-c c = omega (arith, in_array (signed 64) [] c.args.n c.args.i c.requires)
 
-array-copy-out-c : tie.Need-array-copy-out-c
-array-copy-out-c c = in_array (signed 64) [] c.before.args.n c.before.args.i c.before.requires
+array-copy-out-c : tie.Need-bounds-cells-i
+array-copy-out-c c = in_array (signed 64) [] c.args.n c.args.i c.requires
 
-abbrev cell : tie.After-c → Cell
-cell c = get_or c.before.before.args.n.cells c.before.before.args.i (record { negative = false; size = 0 })
+abbrev cell : tie.After-c-1 → Cell
+cell c = get_or c.args.n.cells c.args.i (record { negative = false; size = 0 })
 
-there : (c : tie.After-c) → at (numbers_in c.before.before.args.n) c.before.before.args.i ≡ cond (cell c).negative (negsuc (cell c).size)
+there : (c : tie.After-c-1) → at (numbers_in c.args.n) c.args.i ≡ cond (cell c).negative (negsuc (cell c).size)
     (pos (cell c).size)
 there c = let s = c.before.before in cell_there s.args.n s.args.i _ (inside (signed 64) [] s.args.n s.args.i s.requires)
 
-from-depth-requires : tie.Need-from-depth-requires
+from-depth-requires : tie.Need-from_depth-requires
 from-depth-requires c κs =
     let s = c.before.before.before in
-    size_below _ _ _ (there c.before) c.if1.true (in_kind (signed 64) [] s.args.n s.args.i s.requires).0
+    size_below _ _ _ (there c.before) c.if-c.true (in_kind (signed 64) [] s.args.n s.args.i s.requires).0
 
-returns : tie.Need-returns
-returns c = to_z-of_z {w = w64} {z = c.from-depth.result} (record { sfits = c.from-depth.type-inv }) ∙
-    below_is _ _ _ (there c.before.before) _ c.before.if1.true c.from-depth.ensures
+returns : tie.Need-returns-then-c
+returns c = to_z-of_z {w = w64} {z = c.from_depth.result} (record { sfits = c.from_depth.type_inv }) ∙
+    below_is _ _ _ (there c.before.before) _ c.if-c.true c.from_depth.ensures
 
-from-natural-requires : tie.Need-from-natural-requires
+from-natural-requires : tie.Need-from_natural-requires
 from-natural-requires c κs =
     let s = c.before.before.before in
-    size_above _ _ _ (there c.before) c.if1.false (in_kind (signed 64) [] s.args.n s.args.i s.requires).1
+    size_above _ _ _ (there c.before) c.if-c.false (in_kind (signed 64) [] s.args.n s.args.i s.requires).1
 
-returns-2 : tie.Need-returns-2
-returns-2 c = to_z-of_z {w = w64} {z = c.from-natural.result} (record { sfits = c.from-natural.type-inv }) ∙
-    above_is _ _ _ (there c.before.before) _ c.before.if1.false c.from-natural.ensures
+returns-2 : tie.Need-returns
+returns-2 c = to_z-of_z {w = w64} {z = c.from_natural.result} (record { sfits = c.from_natural.type_inv }) ∙
+    above_is _ _ _ (there c.before.before) _ c.if-c.false c.from_natural.ensures
 
-pub long-spec : {M : Type 1} → statement M
-long-spec = tie.close (tie.spec mul-c array-copy-out-c from-depth-requires returns from-natural-requires returns-2)
+pub long_spec : {M : Type 1} → statement M
+long_spec = tie.close (tie.spec mul-c array-copy-out-c from-depth-requires returns from-natural-requires returns-2)

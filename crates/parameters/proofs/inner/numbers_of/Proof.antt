@@ -15,106 +15,106 @@ use Rattle.parameters.proofs.Laws.{Filled, filled_none, missing, too_many, fille
 use Rattle.parameters.proofs.inner.numbers_of.Statement.{statement}
 use Rattle.parameters.proofs.inner.numbers_of.Tie as tie
 
-abbrev invariant_loop : tie.invariant_loop
+abbrev invariant_loop : tie.invariant-loop-k
 invariant_loop line from letters cells₀ at₀ k₀ cells at k =
     (k ≤ length letters) × ((at ≤ length line) × (((length cells ≡ 24) × (drop k cells ≡ replicate (24 - k) blank)) × Filled letters line from cells k at))
 
-abbrev decreases_loop : tie.decreases_loop
+abbrev decreases_loop : tie.decreases-loop-k
 decreases_loop line from letters cells₀ at₀ k₀ cells at k = length letters - k
 
 -- the line and the letters, seen from the loop
-abbrev line : tie.At-loop invariant_loop decreases_loop → List ℕ
-line l = l.before.before.before.args.line.now
+abbrev line : tie.At-loop-k invariant_loop decreases_loop → List ℕ
+line l = l.args.line.now
 
-abbrev letters : tie.At-loop invariant_loop decreases_loop → List ℕ
-letters l = l.before.before.before.args.letters.now
+abbrev letters : tie.At-loop-k invariant_loop decreases_loop → List ℕ
+letters l = l.args.letters.now
 
-abbrev from : tie.At-loop invariant_loop decreases_loop → ℕ
-from l = l.before.before.before.args.from
+abbrev from : tie.At-loop-k invariant_loop decreases_loop → ℕ
+from l = l.args.from
 
-loop-holds : tie.Need-loop-init invariant_loop decreases_loop
+loop-holds : tie.Need-loop-k-init invariant_loop decreases_loop
 loop-holds c =
     let s = c.before.before in
     (omega arith, (s.requires.0, ((refl, refl), filled_none s.args.letters.now s.args.line.now s.args.from [])))
 
-returns : tie.Need-returns invariant_loop decreases_loop
+returns : tie.Need-returns-then-at-line invariant_loop decreases_loop
 returns c =
     let l = c.before.before.before in
-    reads_as_none c.no-numbers.ensures
-    (missing (letters l) (line l) (from l) l.loop.cells l.loop.k l.loop.at c.before.before.loop-test.true (omega arith)
-    l.loop.invariant.1.1.1)
+    reads_as_none c.no_numbers.ensures
+    (missing (letters l) (line l) (from l) l.loop-k.cells l.loop-k.k l.loop-k.at c.loop-k-test.true (omega arith)
+    l.loop-k.invariant.1.1.1)
 
 -- where the word is that is read next
-abbrev at_loop : tie.After-word-end invariant_loop decreases_loop → tie.At-loop invariant_loop decreases_loop
+abbrev at_loop : tie.After-word_end-end invariant_loop decreases_loop → tie.At-loop-k invariant_loop decreases_loop
 at_loop c = c.before.before.before
 
-starts : (c : tie.After-word-end invariant_loop decreases_loop) → (at_loop c).loop.at + 1 ≤ length (line (at_loop c))
-starts c = let i = (at_loop c).loop.invariant.1.0 in let n = c.before.if1.false in omega arith
+starts : (c : tie.After-word_end-end invariant_loop decreases_loop) → (at_loop c).loop-k.at + 1 ≤ length (line (at_loop c))
+starts c = let i = (at_loop c).loop-k.invariant.1.0 in let n = c.if-at-line.false in omega arith
 
-ends : (c : tie.After-word-end invariant_loop decreases_loop) → c.word-end.result ≤ length (line (at_loop c))
-ends c = end_inside (line (at_loop c)) _ _ (starts c) c.word-end.ensures
+ends : (c : tie.After-word_end-end invariant_loop decreases_loop) → c.word_end-end.result ≤ length (line (at_loop c))
+ends c = end_inside (line (at_loop c)) _ _ (starts c) c.word_end-end.ensures
 
-found : (c : tie.After-number-of invariant_loop decreases_loop) → let w = c.before.before.before in let l = at_loop w in
-    of_number c.number_of_lem.result ≡ within (letter_kind (get_or (letters l) l.loop.k 0)).low (letter_kind (get_or (letters l) l.loop.k 0)).high
+found : (c : tie.After-number_of-x invariant_loop decreases_loop) → let w = c.before.before.before in let l = at_loop w in
+    of_number c.number_of-x.result ≡ within (letter_kind (get_or (letters l) l.loop.k 0)).low (letter_kind (get_or (letters l) l.loop.k 0)).high
     (number_of (word (drop (l.loop.at + 1) (line l))))
 found c =
     let w = c.before.before.before in
-    rw (word_there (line (at_loop w)) _ _ (starts w) w.word-end.ensures) at c.number_of_lem.ensures
+    rw (word_there (line (at_loop w)) _ _ (starts w) w.word_end-end.ensures) at c.number_of-x.ensures
 
-returns-2 : tie.Need-returns-2 invariant_loop decreases_loop
+returns-2 : tie.Need-returns-then-not-is_number invariant_loop decreases_loop
 returns-2 c =
     let i = c.before.before in
     let w = i.before.before.before.before in
     let l = at_loop w in
-    reads_as_none c.no-numbers2.ensures
-    (no_number (letters l) (line l) (from l) l.loop.cells l.loop.k l.loop.at w.word-end.result i.before.number_of_lem.result
-    w.before.before.loop-test.true (omega (arith, starts w))
-    (rest_there (line l) _ _ (starts w) w.word-end.ensures) (found i.before) l.loop.inv.1.1.1
-    (sym i.is_number.ensures ∙ not-true _ c.before.if2.true))
+    reads_as_none c.no_numbers-then-not-is_number.ensures
+    (no_number (letters l) (line l) (from l) l.loop.cells l.loop.k l.loop.at w.word_end-end.result i.number_of-x.result
+    w.loop-k-test.true (omega (arith, starts w))
+    (rest_there (line l) _ _ (starts w) w.word_end-end.ensures) (found i.before) l.loop.inv.1.1.1
+    (sym i.is_number.ensures ∙ not-true _ c.if-not-is_number.true))
 
-small : (l : tie.At-loop invariant_loop decreases_loop) → l.loop.k < length (letters l) → l.loop.k < 24
-small l h = omega (arith, l.before.before.before.requires.1)
+small : (l : tie.At-loop-k invariant_loop decreases_loop) → l.loop-k.k < length (letters l) → l.loop-k.k < 24
+small l h = omega (arith, l.requires.1)
 
-loop-again : tie.Need-loop-preserved invariant_loop decreases_loop
+loop-again : tie.Need-loop-k-preserved invariant_loop decreases_loop
 loop-again c =
     let i = c.before.before in
     let w = i.before.before.before.before in
     let l = at_loop w in
-    let more = w.before.before.loop-test.true in
+    let more = w.loop-k-test.true in
     let room : l.loop.k < length l.loop.cells = omega (arith, small l more, l.loop.inv.1.1.0.0) in (
       omega (arith, more),
       (
         ends w,
         (
           (
-            length-set l.loop.cells l.loop.k c.cell-of.result ∙ l.loop.inv.1.1.0.0,
-            blank_more l.loop.cells l.loop.k c.cell-of.result (small l more) l.loop.inv.1.1.0.1,
+            length-set l.loop.cells l.loop.k c.cell_of.result ∙ l.loop.inv.1.1.0.0,
+            blank_more l.loop.cells l.loop.k c.cell_of.result (small l more) l.loop.inv.1.1.0.1,
           ),
-          rw c.cell-of.ensures
-              (one_more (letters l) (line l) (from l) l.loop.cells l.loop.k l.loop.at w.word-end.result i.before.number_of_lem.result
+          rw c.cell_of.ensures
+              (one_more (letters l) (line l) (from l) l.loop.cells l.loop.k l.loop.at w.word_end-end.result i.number_of-x.result
               more (omega (arith, starts w))
-              (rest_there (line l) _ _ (starts w) w.word-end.ensures) (found i.before) l.loop.inv.1.1.1
-              (sym i.is_number.ensures ∙ not-false _ c.before.if2.false) room),
+              (rest_there (line l) _ _ (starts w) w.word_end-end.ensures) (found i.before) l.loop.inv.1.1.1
+              (sym i.is_number.ensures ∙ not-false _ c.if-not-is_number.false) room),
         ),
       ),
     )
 
-returns-3 : tie.Need-returns-3 invariant_loop decreases_loop
+returns-3 : tie.Need-returns-then-at-line-2 invariant_loop decreases_loop
 returns-3 c =
     let l = c.before.before.before in
-    reads_as_none c.no-numbers3.ensures
-    (too_many (letters l) (line l) (from l) l.loop.cells l.loop.k l.loop.at c.before.before.loop-test.false c.before.if3.true
-    l.loop.invariant.1.1.1)
+    reads_as_none c.no_numbers-then-at-line-2.ensures
+    (too_many (letters l) (line l) (from l) l.loop-k.cells l.loop-k.k l.loop-k.at c.loop-k-test.false c.if-at-line-2.true
+    l.loop-k.invariant.1.1.1)
 
-returns-4 : tie.Need-returns-4 invariant_loop decreases_loop
+returns-4 : tie.Need-returns invariant_loop decreases_loop
 returns-4 c =
     let l = c.before.before in
-    reads_these l.loop.k l.loop.cells _
-    (filled_all (letters l) (line l) (from l) l.loop.cells l.loop.k l.loop.at c.before.loop-test.false c.if3.false l.loop.invariant.1.1.1)
-    (omega (arith, l.loop.invariant.0, l.before.before.before.requires.1)) l.loop.invariant.1.1.0.0 l.loop.invariant.1.1.0.1
+    reads_these l.loop-k.k l.loop-k.cells _
+    (filled_all (letters l) (line l) (from l) l.loop-k.cells l.loop-k.k l.loop-k.at c.loop-k-test.false c.if-at-line-2.false l.loop-k.invariant.1.1.1)
+    (omega (arith, l.loop-k.invariant.0, l.requires.1)) l.loop-k.invariant.1.1.0.0 l.loop-k.invariant.1.1.0.1
 
-pub numbers-of-spec : {M : Type 1} → statement M
-numbers-of-spec =
+pub numbers_of_spec : {M : Type 1} → statement M
+numbers_of_spec =
     tie.close
     (tie.spec invariant_loop decreases_loop loop-holds (λ c κs. search rules) returns (λ c. search rules) (λ c κs. search rules) (λ c. search rules)
     (λ c. search rules) (λ c. omega (arith, ends c)) (λ c. search rules) (λ c κs. search rules) (λ c κs. search rules) (λ c κs. search rules)
@@ -122,11 +122,11 @@ numbers-of-spec =
     (λ c. omega (
       arith,
       small (at_loop c.before.before.before.before.before.before)
-          c.before.before.before.before.before.before.before.before.loop-test.true,
+          c.loop-k-test.true,
     ))
     (λ c. omega (
       arith,
       small (at_loop c.before.before.before.before.before.before)
-          c.before.before.before.before.before.before.before.before.loop-test.true,
+          c.loop-k-test.true,
     ))
     (λ c. search rules) (λ c. search rules) loop-again (λ c κs. search rules) returns-3 returns-4)

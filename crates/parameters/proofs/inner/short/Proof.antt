@@ -10,7 +10,7 @@ use Rattle.parameters.proofs.inner.short.Tie as tie
 word-requires : tie.Need-word-requires
 word-requires c κs = wider (unsigned 16) (unsigned 64) c.args.n c.args.i refl refl c.requires
 
-cast-result : tie.Need-overflow-cast-result
+cast-result : tie.Need-overflow_cast-result
 cast-result c =
     let s = c.before in
     let k = in_kind (unsigned 16) [] s.args.n s.args.i s.requires in
@@ -19,5 +19,5 @@ cast-result c =
 returns : tie.Need-returns
 returns c = c.word.ensures
 
-pub short-spec : {M : Type 1} → statement M
-short-spec = tie.close (tie.spec word-requires cast-result returns)
+pub short_spec : {M : Type 1} → statement M
+short_spec = tie.close (tie.spec word-requires cast-result returns)

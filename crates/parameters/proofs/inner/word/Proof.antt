@@ -10,11 +10,11 @@ use Rattle.parameters.proofs.Laws.{inside, in_array, in_kind, cell_there, size_n
 use Rattle.parameters.proofs.inner.word.Statement.{statement}
 use Rattle.parameters.proofs.inner.word.Tie as tie
 
-mul-c : tie.Need-overflow-mul-c
-mul-c c = omega (arith, in_array (unsigned 64) [] c.before.args.n c.before.args.i c.before.requires)
+mul-c : tie.Need-offset_bounds-cells-i
+mul-c c = omega (arith, in_array (unsigned 64) [] c.args.n c.args.i c.requires)
 
-array-copy-out-c : tie.Need-array-copy-out-c
-array-copy-out-c c = in_array (unsigned 64) [] c.before.args.n c.before.args.i c.before.requires
+array-copy-out-c : tie.Need-bounds-cells-i
+array-copy-out-c c = in_array (unsigned 64) [] c.args.n c.args.i c.requires
 
 returns : tie.Need-returns
 returns c =
@@ -24,5 +24,5 @@ returns c =
     size_natural x.negative x.size (at (numbers_in a.n) a.i) (cell_there a.n a.i _ (inside (unsigned 64) [] a.n a.i s.requires))
     (in_kind (unsigned 64) [] a.n a.i s.requires).0
 
-pub word-spec : {M : Type 1} → statement M
-word-spec = tie.close (tie.spec mul-c array-copy-out-c returns)
+pub word_spec : {M : Type 1} → statement M
+word_spec = tie.close (tie.spec mul-c array-copy-out-c returns)

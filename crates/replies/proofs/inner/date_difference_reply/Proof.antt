@@ -6,21 +6,21 @@ use Rattle.replies.proofs.Laws.{answered_counted}
 use Rattle.replies.proofs.inner.date_difference_reply.Statement.{statement}
 use Rattle.replies.proofs.inner.date_difference_reply.Tie as tie
 
-returns : tie.Need-returns
+returns : tie.Need-returns-in-Difference
 returns c =
     let tries = c.before.before in
     let d = tries.before.before.before.before.before in
     let zero = d.before.before.before.before in
-    let found = zero.before.before.before.before.r.given in
+    let found = zero.r-1.given in
     rw found.1
     (answered_counted (duration_values found.0.0.duration) found.0.0.tries
-    zero.put_byte.ensures d.put-duration.ensures.0 tries.put-natural.ensures.0 (omega arith))
+    zero.put_byte-next.ensures d.put_duration-tries.ensures.0 tries.put_natural.ensures.0 (omega arith))
 
-returns-2 : tie.Need-returns-2
-returns-2 c = rw c.before.before.before.before.before.r2.given.1 c.before.before.refusal.ensures
+returns-2 : tie.Need-returns-in-Refused
+returns-2 c = rw c.in-Refused.is c.refusal.ensures
 
-pub date-difference-reply-spec : {M : Type 1} → statement M
-date-difference-reply-spec =
+pub date_difference_reply_spec : {M : Type 1} → statement M
+date_difference_reply_spec =
     tie.close
     (tie.spec (λ c. search rules) (λ c κs. search rules) (λ c κs. search rules) (λ c. search rules) (λ c κs. search rules) (λ c. search rules)
     (λ c κs. search rules) (λ c. search rules) returns (λ c. search rules) returns-2)

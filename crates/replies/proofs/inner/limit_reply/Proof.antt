@@ -7,17 +7,17 @@ use Rattle.replies.proofs.Laws.{answered}
 use Rattle.replies.proofs.inner.limit_reply.Statement.{statement}
 use Rattle.replies.proofs.inner.limit_reply.Tie as tie
 
-returns : tie.Need-returns
+returns : tie.Need-returns-in-Within
 unfolding spaced
 returns c =
     let zero = c.before.before in
-    rw zero.before.before.enum_told.given.1 (answered zero.put_byte.ensures (nothing _ _) (omega arith))
+    rw zero.in-Within.is (answered zero.put_byte.ensures (nothing _ _) (omega arith))
 
-returns-2 : tie.Need-returns-2
-returns-2 c = rw c.before.before.before.before.before.r.given.1 c.before.before.refusal.ensures
+returns-2 : tie.Need-returns-in-Refused
+returns-2 c = rw c.in-Refused.is c.refusal.ensures
 
-pub limit-reply-spec : {M : Type 1} → statement M
-limit-reply-spec =
+pub limit_reply_spec : {M : Type 1} → statement M
+limit_reply_spec =
     tie.close
     (tie.spec (λ c. search rules) (λ c κs. search rules) (λ c. search rules) (λ c κs. search rules) (λ c. search rules) returns (λ c. search rules)
     returns-2)

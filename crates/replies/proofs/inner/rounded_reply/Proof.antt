@@ -10,20 +10,20 @@ use Rattle.replies.proofs.Laws.{answered}
 use Rattle.replies.proofs.inner.rounded_reply.Statement.{statement}
 use Rattle.replies.proofs.inner.rounded_reply.Tie as tie
 
-returns : tie.Need-returns
+returns : tie.Need-returns-in-Number
 unfolding spaced
 returns c =
     let d = c.before.before in
     let zero = d.before.before.before.before in
-    let r = zero.before.before.before.r.given in
+    let r = zero.r-1.given in
     let back : to_z w64 (of_z w64 r.0.0) ≡ r.0.0 = search rules in
-    rw r.1 (answered zero.put_byte.ensures (after (rw back at d.put-integer.ensures.0) (nothing _ _)) (omega arith))
+    rw r.1 (answered zero.put_byte-next.ensures (after (rw back at d.put_integer.ensures.0) (nothing _ _)) (omega arith))
 
-returns-2 : tie.Need-returns-2
-returns-2 c = rw c.before.before.before.before.before.r2.given.1 c.before.before.refusal.ensures
+returns-2 : tie.Need-returns-in-Refused
+returns-2 c = rw c.in-Refused.is c.refusal.ensures
 
-pub rounded-reply-spec : {M : Type 1} → statement M
-rounded-reply-spec =
+pub rounded_reply_spec : {M : Type 1} → statement M
+rounded_reply_spec =
     tie.close
     (tie.spec (λ c. search rules) (λ c κs. search rules) (λ c κs. search rules) (λ c. search rules) (λ c κs. search rules) (λ c. search rules) returns
     (λ c. search rules) returns-2)

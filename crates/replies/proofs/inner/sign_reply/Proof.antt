@@ -10,21 +10,21 @@ use Rattle.replies.proofs.Laws.{answered}
 use Rattle.replies.proofs.inner.sign_reply.Statement.{statement}
 use Rattle.replies.proofs.inner.sign_reply.Tie as tie
 
-returns : tie.Need-returns
+returns : tie.Need-returns-in-Sign
 unfolding spaced
 returns c =
     let d = c.before.before in
-    let n = d.before.sign-number in
+    let n = d.sign_number in
     let zero = d.before.before.before.before.before in
     let back : to_z w64 (of_z w64 n.result) ≡ n.result = search rules in
-    rw zero.before.before.before.r.given.1
-    (answered zero.put_byte.ensures (after (rw (back, n.ensures) at d.put-integer.ensures.0) (nothing _ _)) (omega arith))
+    rw zero.in-Sign.is
+    (answered zero.put_byte-next.ensures (after (rw (back, n.ensures) at d.put_integer.ensures.0) (nothing _ _)) (omega arith))
 
-returns-2 : tie.Need-returns-2
-returns-2 c = rw c.before.before.before.before.before.r2.given.1 c.before.before.refusal.ensures
+returns-2 : tie.Need-returns-in-Refused
+returns-2 c = rw c.in-Refused.is c.refusal.ensures
 
-pub sign-reply-spec : {M : Type 1} → statement M
-sign-reply-spec =
+pub sign_reply_spec : {M : Type 1} → statement M
+sign_reply_spec =
     tie.close
     (tie.spec (λ c. search rules) (λ c κs. search rules) (λ c κs. search rules) (λ c κs. search rules) (λ c. search rules) (λ c κs. search rules)
     (λ c. search rules) returns (λ c. search rules) returns-2)

@@ -5,17 +5,17 @@ use Rattle.replies.proofs.Laws.{answered}
 use Rattle.replies.proofs.inner.span_reply.Statement.{statement}
 use Rattle.replies.proofs.inner.span_reply.Tie as tie
 
-returns : tie.Need-returns
+returns : tie.Need-returns-in-Span
 returns c =
     let d = c.before.before in
     let zero = d.before.before.before.before in
-    rw zero.before.before.before.r.given.1 (answered zero.put_byte.ensures d.put-span.ensures.0 (omega arith))
+    rw zero.in-Span.is (answered zero.put_byte-next.ensures d.put_span.ensures.0 (omega arith))
 
-returns-2 : tie.Need-returns-2
-returns-2 c = rw c.before.before.before.before.before.r2.given.1 c.before.before.refusal.ensures
+returns-2 : tie.Need-returns-in-Refused
+returns-2 c = rw c.in-Refused.is c.refusal.ensures
 
-pub span-reply-spec : {M : Type 1} → statement M
-span-reply-spec =
+pub span_reply_spec : {M : Type 1} → statement M
+span_reply_spec =
     tie.close
     (tie.spec (λ c. search rules) (λ c κs. search rules) (λ c κs. search rules) (λ c. search rules) (λ c κs. search rules) (λ c. search rules) returns
     (λ c. search rules) returns-2)

@@ -11,11 +11,11 @@ use Rattle.replies.proofs.Laws.{answered}
 use Rattle.replies.proofs.inner.year_month_reply.Statement.{statement}
 use Rattle.replies.proofs.inner.year_month_reply.Tie as tie
 
-cast-put-integer : tie.Need-overflow-cast-put-integer
+cast-put-integer : tie.Need-overflow_cast-r
 cast-put-integer c =
-    let y = c.before.before.before.before.before.before.before.before.args.r.year in
+    let y = c.args.r.year in
     let back : to_z w32 (of_z w32 y) ≡ y = search rules in
-    rw back (sfits_widen {w = w32} tt (record { sfits = c.struct_told.given.0.1 }))
+    rw back (sfits_widen {w = w32} tt (record { sfits = c.struct_told-1.given.0.1 }))
 
 returns : tie.Need-returns
 unfolding spaced
@@ -23,13 +23,13 @@ returns c =
     let month = c.before.before in
     let year = month.before.before.before.before.before in
     let zero = year.before.before.before.before.before.before in
-    let y = zero.before.before.before.args.r.year in
+    let y = zero.args.r.year in
     let back : to_z w32 (of_z w32 y) ≡ y = search rules in
-    answered zero.put_byte.ensures
-    (after (rw (to_z-of_z (cast-put-integer year.before), back) at year.put-integer.ensures.0) (after month.put-natural.ensures.0 (nothing _ _)))
+    answered zero.put_byte-next.ensures
+    (after (rw (to_z-of_z (cast-put-integer year.before), back) at year.put_integer-month.ensures.0) (after month.put_natural.ensures.0 (nothing _ _)))
     (omega arith)
 
-pub year-month-reply-spec : {M : Type 1} → statement M
-year-month-reply-spec =
+pub year_month_reply_spec : {M : Type 1} → statement M
+year_month_reply_spec =
     tie.close
     (tie.spec (λ c κs. search rules) cast-put-integer (λ c κs. search rules) (λ c. search rules) (λ c κs. search rules) (λ c. search rules) returns)

@@ -19,72 +19,72 @@ use Rattle.requests.proofs.Laws.{empty_reply, long_reply, text_reply, no_reply, 
 use Rattle.requests.proofs.inner.reply.Statement.{statement}
 use Rattle.requests.proofs.inner.reply.Tie as tie
 
-returns : tie.Need-returns
-returns c = (wrote_as (nothing _ _) (empty_reply _ c.if1.true), omega arith)
+returns : tie.Need-returns-then-line-eq0
+returns c = (wrote_as (nothing _ _) (empty_reply _ c.if-line-eq0.true), omega arith)
 
-returns-2 : tie.Need-returns-2
+returns-2 : tie.Need-returns-then-line-gt-LONGEST
 returns-2 c =
     let p = c.before.before in
-    (wrote_as p.put_byte.ensures (long_reply _ p.before.before.if2.true), omega (arith, p.put_byte.ensures.ends))
+    (wrote_as p.put_byte.ensures (long_reply _ p.if-line-gt-LONGEST.true), omega (arith, p.put_byte.ensures.ends))
 
 -- the line, its first word and what follows it
-abbrev line : tie.After-word-end → List ℕ
+abbrev line : tie.After-word_end-end → List ℕ
 line w = w.before.before.before.before.before.before.args.line.now
 
-ends : (w : tie.After-word-end) → w.word-end.result ≡ length (word (line w))
-ends w = omega (arith, w.word-end.ensures)
+ends : (w : tie.After-word_end-end) → w.word_end-end.result ≡ length (word (line w))
+ends w = omega (arith, w.word_end-end.ensures)
 
-name : (w : tie.After-word-end) → take w.word-end.result (line w) ≡ word (line w)
+name : (w : tie.After-word_end-end) → take w.word_end-end.result (line w) ≡ word (line w)
 name w = ap (λ (k : ℕ). take k (line w)) (ends w) ∙ word_start (line w)
 
-follows : (w : tie.After-word-end) → drop w.word-end.result (line w) ≡ rest (line w)
+follows : (w : tie.After-word_end-end) → drop w.word_end-end.result (line w) ≡ rest (line w)
 follows w = ap (λ (k : ℕ). drop k (line w)) (ends w) ∙ rest_start_lem (line w)
 
-inside : (w : tie.After-word-end) → w.word-end.result ≤ length (line w)
+inside : (w : tie.After-word_end-end) → w.word_end-end.result ≤ length (line w)
 inside w = omega (arith, ends w, word_inside (line w))
 
-slice-aggregate-place-of : tie.Need-slice-aggregate-place-of
+slice-aggregate-place-of : tie.Need-slice_bounds-place_of-end
 slice-aggregate-place-of c = sym (length-take-le _ _ (inside c.before))
 
-place-of-requires : tie.Need-place-of-requires
+place-of-requires : tie.Need-place_of-place-requires
 place-of-requires c κs =
     let w = c.before in
-    (w.before.before.before.before.before.before.requires.0, subst (λ (l : List ℕ). spaceless l ≡ true) (sym (name w)) (word_spaceless (line w)))
+    (w.requires.0, subst (λ (l : List ℕ). spaceless l ≡ true) (sym (name w)) (word_spaceless (line w)))
 
-named : (c : tie.After-place-of) → c.place_of.result ≡ place_in calls (word (line c.before.before))
-named c = c.place_of.ensures ∙ ap (place_in calls) (name c.before.before)
+named : (c : tie.After-place_of-place) → c.place_of-place.result ≡ place_in calls (word (line c.before.before))
+named c = c.place_of-place.ensures ∙ ap (place_in calls) (name c.before.before)
 
-returns-3 : tie.Need-returns-3
+returns-3 : tie.Need-returns-then-place-eq-CALLS
 returns-3 c =
     let p = c.before.before in
     let t = p.before.before in
     let w = t.before.before.before in (
-      wrote_as p.answer-text.ensures.0 (text_reply (line w) w.before.before.if1.false w.before.if2.false _ (named t.before)
-          t.if3.true),
-      p.answer-text.ensures.1,
+      wrote_as p.answer_text.ensures.0 (text_reply (line w) w.if-line-eq0.false w.if-line-gt-LONGEST.false _ (named t.before)
+          t.if-place-eq-CALLS.true),
+      p.answer_text.ensures.1,
     )
 
-known : (c : tie.Else3) → c.before.place_of.result < length calls
-known c = omega (arith, named c.before, place_most calls (word (line c.before.before.before)), c.if3.false)
+known : (c : tie.Else3) → c.place_of-place.result < length calls
+known c = omega (arith, named c.before, place_most calls (word (line c.before.before.before)), c.if-place-eq-CALLS.false)
 
-numbers-at-requires : tie.Need-numbers-at-requires
+numbers-at-requires : tie.Need-numbers_at-n-requires
 numbers-at-requires c κs =
     let w = c.before.before.before in
-    (w.before.before.before.before.before.before.requires.0, (known c, inside w))
+    (w.requires.0, (known c, inside w))
 
-read : (c : tie.After-numbers-at) → Reads c.numbers-at.result (arguments (get_or calls c.before.before.place_of.result no_row).takes
+read : (c : tie.After-numbers_at-n) → Reads c.numbers_at-n.result (arguments (get_or calls c.place_of-place.result no_row).takes
     (rest (line c.before.before.before.before)))
-read c = rw (follows c.before.before.before.before) at c.numbers-at.ensures
+read c = rw (follows c.before.before.before.before) at c.numbers_at-n.ensures
 
-returns-4 : tie.Need-returns-4
+returns-4 : tie.Need-returns-then-not-n
 returns-4 c =
     let p = c.before.before in
     let n = p.before.before.before.before in
     let w = n.before.before.before.before in (
-      wrote_as p.put-byte2.ensures
-          (no_reply (line w) w.before.before.if1.false w.before.if2.false _ (named n.before.before) (known n.before) _ (read n)
-          (not-true _ p.before.before.if4.true)),
-      omega (arith, p.put-byte2.ensures.ends),
+      wrote_as p.put_byte-then-not-n.ensures
+          (no_reply (line w) w.if-line-eq0.false w.if-line-gt-LONGEST.false _ (named n.before.before) (known n.before) _ (read n)
+          (not-true _ p.if-not-n.true)),
+      omega (arith, p.put_byte-then-not-n.ensures.ends),
     )
 
 answer-requires : tie.Need-answer-requires
@@ -93,25 +93,25 @@ answer-requires c κs =
     let w = n.before.before.before.before in (
       known n.before,
       record {
-        numbers = holds_all _ _ _ (read n) (not-false _ c.before.if4.false);
+        numbers = holds_all _ _ _ (read n) (not-false _ c.if-not-n.false);
         room =
-            omega (arith, w.before.before.before.before.before.before.requires.1);
+            omega (arith, w.requires.1);
       },
     )
 
-returns-5 : tie.Need-returns-5
+returns-5 : tie.Need-returns
 returns-5 c =
     let p = c.before.before in
     let n = p.before.before.before.before in
     let w = n.before.before.before.before in (
       wrote_as p.answer.ensures.wrote
-          (good_reply (line w) w.before.before.if1.false w.before.if2.false _ (named n.before.before) (known n.before) _ (read n)
-          (not-false _ p.before.before.if4.false)),
+          (good_reply (line w) w.if-line-eq0.false w.if-line-gt-LONGEST.false _ (named n.before.before) (known n.before) _ (read n)
+          (not-false _ p.if-not-n.false)),
       p.answer.ensures.short,
     )
 
-pub reply-spec : {M : Type 1} → statement M
-reply-spec =
+pub reply_spec : {M : Type 1} → statement M
+reply_spec =
     tie.close
     (tie.spec returns (λ c κs. search rules) (λ c. search rules) returns-2 (λ c κs. search rules) slice-aggregate-place-of place-of-requires
     (λ c κs. search rules) (λ c. search rules) returns-3 numbers-at-requires (λ c κs. search rules) (λ c. search rules) returns-4 answer-requires

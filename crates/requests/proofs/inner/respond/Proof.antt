@@ -7,8 +7,8 @@ use Rattle.requests.proofs.inner.respond.Tie as tie
 returns : tie.Need-returns
 returns c =
     let end = c.before.before in
-    after end.before.before.before.before.reply.ensures.0 end.put_byte.ensures
+    after end.reply-end.ensures.0 end.put_byte.ensures
 
-pub respond-spec : {M : Type 1} → statement M
-respond-spec =
+pub respond_spec : {M : Type 1} → statement M
+respond_spec =
     tie.close (tie.spec (λ c κs. search rules) (λ c κs. search rules) (λ c. search rules) returns)

@@ -9,5 +9,5 @@ returns : tie.Need-returns
 unfolding word bounds_of letters_kinds
 returns c = record { text = refl; sized = refl; names = refl; letters = refl }
 
-pub table-spec : {M : Type 1} → statement M
-table-spec = tie.close (tie.spec returns)
+pub table_spec : {M : Type 1} → statement M
+table_spec = tie.close (tie.spec returns)

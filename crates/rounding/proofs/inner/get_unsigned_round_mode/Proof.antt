@@ -5,8 +5,8 @@ use Rattle.rounding.proofs.Rounds.{row_small, column_small, cell}
 use Rattle.rounding.proofs.inner.get_unsigned_round_mode.Statement.{statement}
 use Rattle.rounding.proofs.inner.get_unsigned_round_mode.Tie as tie
 
-mul-result : tie.Need-overflow-mul-result
-mul-result c = omega (arith, c.before.row.ensures, row_small c.before.before.args.mode)
+mul-result : tie.Need-offset_bounds-i
+mul-result c = omega (arith, c.row-i.ensures, row_small c.args.mode)
 
 index-1-result : tie.Need-bounds-1-result
 index-1-result c = omega (arith, c.before.row.ensures, row_small c.before.before.args.mode)
@@ -16,9 +16,9 @@ index-2-result c = omega (arith, c.column.ensures, column_small c.before.before.
 
 returns : tie.Need-returns
 returns c =
-    let a = c.before.before.before.args in
-    rw (c.before.before.row.ensures, c.before.column.ensures) (cell a.mode a.negative)
+    let a = c.args in
+    rw (c.row-i.ensures, c.column-j.ensures) (cell a.mode a.negative)
 
-pub get-unsigned-round-mode-spec : {M : Type 1} → statement M
-get-unsigned-round-mode-spec =
+pub get_unsigned_round_mode_spec : {M : Type 1} → statement M
+get_unsigned_round_mode_spec =
     tie.close (tie.spec (λ c κs. search rules) (λ c κs. search rules) mul-result index-1-result index-2-result returns)

@@ -2,11 +2,11 @@
 use Rattle.rounding.proofs.inner.past_half_or_odd.Statement.{statement}
 use Rattle.rounding.proofs.inner.past_half_or_odd.Tie as tie
 
-returns : tie.Need-returns
-returns c = rw c.if1.true
+returns : tie.Need-returns-then-odd
+returns c = rw c.if-odd.true
 
-returns-2 : tie.Need-returns-2
-returns-2 c = rw c.if1.false
+returns-2 : tie.Need-returns-else-odd
+returns-2 c = rw c.if-odd.false
 
-pub past-half-or-odd-spec : {M : Type 1} → statement M
-past-half-or-odd-spec = tie.close (tie.spec returns returns-2)
+pub past_half_or_odd_spec : {M : Type 1} → statement M
+past_half_or_odd_spec = tie.close (tie.spec returns returns-2)

@@ -11,27 +11,27 @@ use Rattle.stream.proofs.Stream.{long_lines}
 use Rattle.stream.proofs.inner.end_line.Statement.{statement}
 use Rattle.stream.proofs.inner.end_line.Tie as tie
 
-returns : tie.Need-returns
+returns : tie.Need-returns-then-s
 returns c =
     let end = c.before.before in
     let mark = end.before.before.before.before in
     let t = mark.before.before in
-    (search rules, λ p h. wrote_as (after mark.put_byte.ensures end.put-byte2.ensures) (sym (long_lines p (h.longer t.if1.true))))
+    (search rules, λ p h. wrote_as (after mark.put_byte-end.ensures end.put_byte.ensures) (sym (long_lines p (h.longer t.if-s.true))))
 
-slice-aggregate-respond : tie.Need-slice-aggregate-respond
-slice-aggregate-respond c = sym (length-take-le _ _ c.before.before.before.before.before.requires.1.0)
+slice-aggregate-respond : tie.Need-slice_bounds-respond-end
+slice-aggregate-respond c = sym (length-take-le _ _ c.requires.1.0)
 
-returns-2 : tie.Need-returns-2
+returns-2 : tie.Need-returns
 returns-2 c =
-    let w = c.before.before.respond.ensures in
+    let w = c.respond.ensures in
     let t = c.before.before.before.before.before in
     let s = t.before.before.before.before in
     let at : s.args.s.filled ≤ length s.args.out.now = omega (arith, s.requires.1.1) in
     let inside = ends_inside at w in
-    (omega (arith, w.sized), λ p h. wrote_as w (ap response_to (sym (h.whole t.if1.false))))
+    (omega (arith, w.sized), λ p h. wrote_as w (ap response_to (sym (h.whole t.if-s.false))))
 
-pub end-line-spec : {M : Type 1} → statement M
-end-line-spec =
+pub end_line_spec : {M : Type 1} → statement M
+end_line_spec =
     tie.close
     (tie.spec (λ c κs. search rules) (λ c κs. search rules) (λ c. search rules) returns slice-aggregate-respond (λ c κs. search rules)
     (λ c. search rules) returns-2)

@@ -5,25 +5,25 @@ use Rattle.stream.proofs.Stream.{took_newline, took_other, took_long}
 use Rattle.stream.proofs.inner.take_byte.Statement.{statement}
 use Rattle.stream.proofs.inner.take_byte.Tie as tie
 
-returns : tie.Need-returns
+returns : tie.Need-returns-then-b-eq10
 returns c =
-    let e = c.before.before.end_line in
+    let e = c.end_line-filled in
     let t = c.before.before.before.before.before in
-    let pre = t.before.before.before.before.before.before.requires.1 in
-    (refl, took_newline pre.0 pre.1.0 pre.1.1 t.if1.true (search rules) e.ensures.1)
+    let pre = t.requires.1 in
+    (refl, took_newline pre.0 pre.1.0 pre.1.1 t.if-b-eq10.true (search rules) e.ensures.1)
 
-returns-2 : tie.Need-returns-2
+returns-2 : tie.Need-returns-then-have-line
 returns-2 c =
-    let pre = c.before.before.before.before.before.before.before.requires.1 in
-    (refl, took_other pre.0 pre.1.0 pre.1.1 c.before.if1.false c.if2.true)
+    let pre = c.requires.1 in
+    (refl, took_other pre.0 pre.1.0 pre.1.1 c.if-b-eq10.false c.if-have-line.true)
 
-returns-3 : tie.Need-returns-3
+returns-3 : tie.Need-returns
 returns-3 c =
-    let given = c.before.before.before.before.before.before.before.requires.1 in
-    (refl, took_long given.0 given.1.0 given.1.1 c.before.if1.false c.if2.false)
+    let given = c.requires.1 in
+    (refl, took_long given.0 given.1.0 given.1.1 c.if-b-eq10.false c.if-have-line.false)
 
-pub take-byte-spec : {M : Type 1} → statement M
-take-byte-spec =
+pub take_byte_spec : {M : Type 1} → statement M
+take_byte_spec =
     tie.close
     (tie.spec (λ c. search rules) (λ c. search rules) (λ c κs. search rules) (λ c. search rules) (λ c. search rules) returns (λ c. search rules)
     (λ c. search rules) (λ c. search rules) returns-2 returns-3)

@@ -20,10 +20,10 @@ abbrev line : tie.Start → List ℕ
 line s = s.args.line.now
 
 abbrev start_of : tie.Else1 → tie.Start
-start_of c = c.before.before.before
+start_of c = c.before
 
 inside : (c : tie.Else1) → (start_of c).args.end < length (line (start_of c))
-inside c = omega (arith, (start_of c).requires.0, word_inside (line (start_of c)), c.if1.false)
+inside c = omega (arith, (start_of c).requires.0, word_inside (line (start_of c)), c.if-end-line.false)
 
 after_name : (c : tie.Else1) → (start_of c).args.end + 1 ≤ length (line (start_of c))
 after_name c = omega (arith, inside c)
@@ -43,31 +43,31 @@ text c =
 abbrev first : tie.After-same → tie.Else1
 first c = c.before.before.before
 
-abbrev second : tie.After-same2 → tie.After-same
+abbrev second : tie.After-same-2 → tie.After-same
 second c = c.before.before.before.before
 
-abbrev third : tie.After-same3 → tie.After-same2
+abbrev third : tie.After-same-3 → tie.After-same-2
 third c = c.before.before.before.before
 
-returns : tie.Need-returns
+returns : tie.Need-returns-then-end-line
 returns c =
     let p = c.before.before in
     let s = p.before.before.before.before.before in
-    (wrote_as p.put_byte.ensures (no_text (line s) s.args.end s.requires.0 p.before.before.if1.true), omega (arith, p.put_byte.ensures.ends))
+    (wrote_as p.put_byte.ensures (no_text (line s) s.args.end s.requires.0 p.if-end-line.true), omega (arith, p.put_byte.ensures.ends))
 
 -- the name is not that of the first call, of the first two, of all three
 not_first : (c : tie.Else2) → reply_by_text (drop 1 text_calls) (line (start_of (first c.before))) ≡ reply_by_text text_calls (line (start_of (first c.before)))
 not_first c =
     let s = start_of (first c.before) in
     text_later (line s) s.args.end s.pre.0 (inside (first c.before)) _ _
-    (λ e. clash c.before.same.result (c.before.same.ensures.1 e) c.if2.false)
+    (λ e. clash c.same.result (c.same.ensures.1 e) c.if-same.false)
 
 not_second : (c : tie.Else3) →
     reply_by_text (drop 2 text_calls) (line (start_of (first (second c.before)))) ≡ reply_by_text text_calls (line (start_of (first (second c.before))))
 not_second c =
     let f = first (second c.before) in
     let s = start_of f in
-    text_later (line s) s.args.end s.pre.0 (inside f) _ _ (λ e. clash c.before.same2.result (c.before.same2.ensures.1 e) c.if3.false) ∙
+    text_later (line s) s.args.end s.pre.0 (inside f) _ _ (λ e. clash c.same-2.result (c.same-2.ensures.1 e) c.if-same-2.false) ∙
     not_first c.before.before.before.before
 
 not_third : (c : tie.Else4) →
@@ -76,49 +76,49 @@ not_third : (c : tie.Else4) →
 not_third c =
     let f = first (second (third c.before)) in
     let s = start_of f in
-    text_later (line s) s.args.end s.pre.0 (inside f) _ _ (λ e. clash c.before.same3.result (c.before.same3.ensures.1 e) c.if4.false) ∙
+    text_later (line s) s.args.end s.pre.0 (inside f) _ _ (λ e. clash c.same-3.result (c.same-3.ensures.1 e) c.if-same-3.false) ∙
     not_second c.before.before.before.before
 
-returns-2 : tie.Need-returns-2
+returns-2 : tie.Need-returns-then-same
 returns-2 c =
     let d = c.before.before in
     let t = d.before.before.before in
     let f = first t.before in
     let s = start_of f in
-    let named = text_here (line s) s.args.end s.pre.0 (inside f) _ _ (t.before.same.ensures.0 t.if2.true) in
-    (wrote_as d.read-date.ensures.wrote (ap (λ (l : List ℕ). reply_text (text_answers_of "read_date" l)) (text f) ∙ named), d.read-date.ensures.short)
+    let named = text_here (line s) s.args.end s.pre.0 (inside f) _ _ (t.same.ensures.0 t.if-same.true) in
+    (wrote_as d.read_date.ensures.wrote (ap (λ (l : List ℕ). reply_text (text_answers_of "read_date" l)) (text f) ∙ named), d.read_date.ensures.short)
 
-returns-3 : tie.Need-returns-3
+returns-3 : tie.Need-returns-then-same-2
 returns-3 c =
     let d = c.before.before in
     let t = d.before.before.before in
     let f = first (second t.before) in
     let s = start_of f in
-    let named = text_here (line s) s.args.end s.pre.0 (inside f) _ _ (t.before.same2.ensures.0 t.if3.true) in (
-      wrote_as d.read-time.ensures.wrote
+    let named = text_here (line s) s.args.end s.pre.0 (inside f) _ _ (t.same-2.ensures.0 t.if-same-2.true) in (
+      wrote_as d.read_time.ensures.wrote
           (ap (λ (l : List ℕ). reply_text (text_answers_of "read_time" l)) (text f) ∙ named ∙ not_first t.before.before.before.before),
-      d.read-time.ensures.short,
+      d.read_time.ensures.short,
     )
 
-returns-4 : tie.Need-returns-4
+returns-4 : tie.Need-returns-then-same-3
 returns-4 c =
     let d = c.before.before in
     let t = d.before.before.before in
     let f = first (second (third t.before)) in
     let s = start_of f in
-    let named = text_here (line s) s.args.end s.pre.0 (inside f) _ _ (t.before.same3.ensures.0 t.if4.true) in (
-      wrote_as d.read-datetime.ensures.wrote
+    let named = text_here (line s) s.args.end s.pre.0 (inside f) _ _ (t.same-3.ensures.0 t.if-same-3.true) in (
+      wrote_as d.read_datetime.ensures.wrote
           (ap (λ (l : List ℕ). reply_text (text_answers_of "read_datetime" l)) (text f) ∙ named ∙ not_second t.before.before.before.before),
-      d.read-datetime.ensures.short,
+      d.read_datetime.ensures.short,
     )
 
-returns-5 : tie.Need-returns-5
+returns-5 : tie.Need-returns
 returns-5 c =
     let d = c.before.before in
-    (wrote_as d.put-byte2.ensures (no_text_call _ ∙ not_third d.before.before), omega (arith, d.put-byte2.ensures.ends))
+    (wrote_as d.put_byte-2.ensures (no_text_call _ ∙ not_third d.before.before), omega (arith, d.put_byte-2.ensures.ends))
 
-pub answer-text-spec : {M : Type 1} → statement M
-answer-text-spec =
+pub answer_text_spec : {M : Type 1} → statement M
+answer_text_spec =
     tie.close
     (tie.spec (λ c κs. search rules) (λ c. search rules) returns (λ c. omega (arith, inside c)) (λ c. front c.before) (λ c. search rules)
     (λ c κs. search rules) (λ c. after_name (first c.before)) (λ c. after_name (first c.before)) (λ c. search rules) (λ c κs. search rules)

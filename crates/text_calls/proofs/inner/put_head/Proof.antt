@@ -9,35 +9,35 @@ use Rattle.text_calls.proofs.Parts.{ends_there}
 use Rattle.text_calls.proofs.inner.put_head.Statement.{statement}
 use Rattle.text_calls.proofs.inner.put_head.Tie as tie
 
-few : (c : tie.After-known-told) → c.before.answer.given.0.0 ≤ 64
-few c = rw c.before.answer.given.1 at c.before.before.before.before.requires.1
+few : (c : tie.In-Length) → c.in-Length.n ≤ 64
+few c = rw c.in-Length.is at c.requires.1
 
-add-result : tie.Need-overflow-add-result
+add-result : tie.Need-overflow_add-result
 add-result c =
     let space = c.before.before in
     let zero = space.before.before.before.before in
-    omega (arith, few zero.before.before, space.put-byte2.ensures.ends, zero.put_byte.ensures.ends)
+    omega (arith, few zero.before.before, space.put_byte-start.ensures.ends, zero.put_byte-next.ensures.ends)
 
-returns : tie.Need-returns
+returns : tie.Need-returns-in-Length
 returns c =
     let space = c.before.before in
     let zero = space.before.before.before.before in
     let told = zero.before.before in
-    let both = after zero.put_byte.ensures space.put-byte2.ensures in
-    rw told.before.answer.given.1 (ends_there both, (omega (arith, both.ends), omega arith))
+    let both = after zero.put_byte-next.ensures space.put_byte-start.ensures in
+    rw told.in-Length.is (ends_there both, (omega (arith, both.ends), omega arith))
 
-returns-2 : tie.Need-returns-2
+returns-2 : tie.Need-returns-in-Refused
 unfolding decimal
 returns-2 c =
     let d = c.before.before in
     let told = d.before.before in
-    rw told.before.answer2.given.1 (
-      ends_there d.put-digits.ensures,
-      (omega (arith, d.put-digits.ensures.ends), few_digits 20 19 told.before.answer2.given.0.0 (omega arith)),
+    rw told.in-Refused.is (
+      ends_there d.put_digits.ensures,
+      (omega (arith, d.put_digits.ensures.ends), few_digits 20 19 told.in-Refused.n (omega arith)),
     )
 
-pub put-head-spec : {M : Type 1} → statement M
-put-head-spec =
+pub put_head_spec : {M : Type 1} → statement M
+put_head_spec =
     tie.close
     (tie.spec (λ c. search rules) (λ c κs. search rules) (λ c κs. search rules) add-result (λ c. search rules) (λ c. search rules)
-    (λ c κs. omega (arith, few_digits 20 19 c.before.before.answer2.given.0.0 (omega arith))) (λ c. search rules) returns (λ c. search rules) returns-2)
+    (λ c κs. omega (arith, few_digits 20 19 c.in-Refused.n (omega arith))) (λ c. search rules) returns (λ c. search rules) returns-2)

@@ -6,7 +6,7 @@ use Rattle.text_calls.proofs.inner.read_datetime.Statement.{statement}
 use Rattle.text_calls.proofs.inner.read_datetime.Tie as tie
 
 returns : tie.Need-returns
-returns c = let d = c.before.before in replied_as d.date-time-reply.ensures (ap (shown date_time_values) d.before.before.read-datetime.ensures)
+returns c = let d = c.before.before in replied_as d.date_time_reply.ensures (ap (shown date_time_values) d.read_datetime-answer.ensures)
 
-pub read-datetime-spec : {M : Type 1} → statement M
-read-datetime-spec = tie.close (tie.spec (λ c κs. search rules) (λ c κs. search rules) (λ c. search rules) returns)
+pub read_datetime_spec : {M : Type 1} → statement M
+read_datetime_spec = tie.close (tie.spec (λ c κs. search rules) (λ c κs. search rules) (λ c. search rules) returns)

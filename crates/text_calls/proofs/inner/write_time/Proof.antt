@@ -6,13 +6,13 @@ use Rattle.text_calls.proofs.Parts.{head_asks, text_replied}
 use Rattle.text_calls.proofs.inner.write_time.Statement.{statement}
 use Rattle.text_calls.proofs.inner.write_time.Tie as tie
 
-put-head-requires : tie.Need-put-head-requires
+put-head-requires : tie.Need-put_head-requires
 put-head-requires c κs =
     let w = c.before.before.before in
     let r = w.before.before in
     let s = r.before.before.before in
-    head_asks _ _ _ _ s.requires.room r.room.ensures.1 w.write-time.auto.1.0 (write_time r.before.time.result)
-    w.write-time.result w.write-time.ensures
+    head_asks _ _ _ _ s.requires.room r.room.ensures.1 w.write_time-answer.auto.1.0 (write_time r.time-time.result)
+    w.write_time-answer.result w.write_time-answer.ensures
 
 returns : tie.Need-returns
 returns c =
@@ -20,11 +20,11 @@ returns c =
     let w = d.before.before.before.before in
     let r = w.before.before in
     let s = r.before.before.before in
-    replied_as (text_replied _ _ _ _ s.requires.room r.room.ensures.1 w.write-time.auto.1.0 (write_time r.before.time.result)
-    w.write-time.result w.write-time.ensures _ _ d.put-head.ensures) (rw (r.before.time.ensures, r.room.ensures.0))
+    replied_as (text_replied _ _ _ _ s.requires.room r.room.ensures.1 w.write_time-answer.auto.1.0 (write_time r.time-time.result)
+    w.write_time-answer.result w.write_time-answer.ensures _ _ d.put_head.ensures) (rw (r.time-time.ensures, r.room.ensures.0))
 
-pub write-time-spec : {M : Type 1} → statement M
-write-time-spec =
+pub write_time_spec : {M : Type 1} → statement M
+write_time_spec =
     tie.close
-    (tie.spec (λ c κs. holds_at 6 c.before.requires.numbers) (λ c. search rules) (λ c κs. holds_at 1 c.before.before.requires.numbers) (λ c. search rules)
+    (tie.spec (λ c κs. holds_at 6 c.requires.numbers) (λ c. search rules) (λ c κs. holds_at 1 c.requires.numbers) (λ c. search rules)
     (λ c. search rules) (λ c. search rules) (λ c. search rules) (λ c κs. search rules) put-head-requires (λ c. search rules) returns)

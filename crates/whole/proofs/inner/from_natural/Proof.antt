@@ -8,5 +8,5 @@ use Rattle.whole.proofs.inner.from_natural.Tie as tie
 returns : tie.Need-returns
 returns c = to_z_pos w64 c.requires
 
-pub from-natural-spec : {M : Type 1} → statement M
-from-natural-spec = tie.close (tie.spec (λ c. search rules) returns)
+pub from_natural_spec : {M : Type 1} → statement M
+from_natural_spec = tie.close (tie.spec (λ c. search rules) returns)

@@ -6,7 +6,7 @@ use Rattle.whole.proofs.Edges.{lowered_is, lowered_fits}
 use Rattle.whole.proofs.inner.lower.Statement.{statement}
 use Rattle.whole.proofs.inner.lower.Tie as tie
 
-sub-result : tie.Need-overflow-sub-result
+sub-result : tie.Need-overflow_sub-result
 sub-result c = rw (to_z_pos w64 c.requires.0, to_z_pos w64 c.requires.1) (lowered_fits _ _ c.requires.0 c.requires.1)
 
 returns : tie.Need-returns

@@ -8,7 +8,7 @@ use Rattle.whole.proofs.inner.size_of_negative.Statement.{statement}
 use Rattle.whole.proofs.inner.size_of_negative.Tie as tie
 
 returns : tie.Need-returns
-returns c = (size_is _ _ (sym (to_z-of_z c.before.ranges.x) ∙ c.to-depth.ensures.0), (omega arith, omega (arith, c.to-depth.ensures.1)))
+returns c = (size_is _ _ (sym (to_z-of_z c.ranges.x) ∙ c.to_depth.ensures.0), (omega arith, omega (arith, c.to_depth.ensures.1)))
 
-pub size-of-negative-spec : {M : Type 1} → statement M
-size-of-negative-spec = tie.close (tie.spec (λ c κs. search rules) (λ c. search rules) returns)
+pub size_of_negative_spec : {M : Type 1} → statement M
+size_of_negative_spec = tie.close (tie.spec (λ c κs. search rules) (λ c. search rules) returns)

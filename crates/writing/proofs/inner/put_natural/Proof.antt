@@ -7,7 +7,7 @@ use Rattle.writing.proofs.Writing.{after}
 use Rattle.writing.proofs.inner.put_natural.Statement.{statement}
 use Rattle.writing.proofs.inner.put_natural.Tie as tie
 
-put-digits-requires : tie.Need-put-digits-requires
+put-digits-requires : tie.Need-put_digits-requires
 put-digits-requires c κs =
     let s = c.before.before.before.before.before.before in
     omega (arith, few_digits 20 19 s.args.n (omega arith))
@@ -18,7 +18,7 @@ returns c =
     let d = c.before.before in
     let gap = d.before.before.before.before in
     let s = gap.before.before.before in
-    (after gap.put_byte.ensures d.put-digits.ensures, omega (arith, d.put-digits.ensures.ends, few_digits 20 19 s.args.n (omega arith)))
+    (after gap.put_byte-start.ensures d.put_digits.ensures, omega (arith, d.put_digits.ensures.ends, few_digits 20 19 s.args.n (omega arith)))
 
-pub put-natural-spec : {M : Type 1} → statement M
-put-natural-spec = tie.close (tie.spec (λ c κs. search rules) put-digits-requires (λ c. search rules) returns)
+pub put_natural_spec : {M : Type 1} → statement M
+put_natural_spec = tie.close (tie.spec (λ c κs. search rules) put-digits-requires (λ c. search rules) returns)

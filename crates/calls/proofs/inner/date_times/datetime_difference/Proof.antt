@@ -12,11 +12,11 @@ returns c =
     let n2 = call.before in
     let n1 = n2.before in
     let n0 = n1.before in
-    replied_as c.before.before.difference-reply.ensures
-    (ap (shown difference_values) (rw (n0.date-time.ensures, n1.date-time2.ensures, n2.unit.ensures) at call.diff.ensures))
+    replied_as c.difference_reply.ensures
+    (ap (shown difference_values) (rw (n0.date_time-one.ensures, n1.date_time.ensures, n2.unit.ensures) at call.diff-answer.ensures))
 
-pub datetime-difference-spec : {M : Type 1} → statement M
-datetime-difference-spec =
+pub datetime_difference_spec : {M : Type 1} → statement M
+datetime_difference_spec =
     tie.close
-    (tie.spec (λ c κs. holds_at 9 c.before.requires.numbers) (λ c κs. holds_at 9 c.before.before.requires.numbers)
-    (λ c κs. holds_at 1 c.before.before.before.requires.numbers) (λ c κs. search rules) (λ c κs. search rules) (λ c. search rules) returns)
+    (tie.spec (λ c κs. holds_at 9 c.requires.numbers) (λ c κs. holds_at 9 c.requires.numbers)
+    (λ c κs. holds_at 1 c.requires.numbers) (λ c κs. search rules) (λ c κs. search rules) (λ c. search rules) returns)

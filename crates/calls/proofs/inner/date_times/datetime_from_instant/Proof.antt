@@ -14,18 +14,18 @@ returns c =
     let n2 = call.before in
     let n1 = n2.before in
     let n0 = n1.before in
-    replied_as c.before.before.date-time-reply.ensures
+    replied_as c.date_time_reply.ensures
     (ap (shown date_time_values) (rw (
-      to_z-of_z {w = w64} {z = n0.long.result} (record { sfits = n0.long.type-inv }),
-      to_z-of_z {w = w64} {z = n1.long2.result} (record { sfits = n1.long2.type-inv }),
-      to_z-of_z {w = w64} {z = n2.long3.result} (record { sfits = n2.long3.type-inv }),
+      to_z-of_z {w = w64} {z = n0.long.result} (record { sfits = n0.long.type_inv }),
+      to_z-of_z {w = w64} {z = n1.long-2.result} (record { sfits = n1.long-2.type_inv }),
+      to_z-of_z {w = w64} {z = n2.long-3.result} (record { sfits = n2.long-3.type_inv }),
       n0.long.ensures,
-      n1.long2.ensures,
-      n2.long3.ensures,
-    ) at call.from-epoch-nanos.ensures))
+      n1.long-2.ensures,
+      n2.long-3.ensures,
+    ) at call.from_epoch_nanos-answer.ensures))
 
-pub datetime-from-instant-spec : {M : Type 1} → statement M
-datetime-from-instant-spec =
+pub datetime_from_instant_spec : {M : Type 1} → statement M
+datetime_from_instant_spec =
     tie.close
-    (tie.spec (λ c κs. holds_at 1 c.before.requires.numbers) (λ c κs. holds_at 1 c.before.before.requires.numbers)
-    (λ c κs. holds_at 1 c.before.before.before.requires.numbers) (λ c κs. search rules) (λ c κs. search rules) (λ c. search rules) returns)
+    (tie.spec (λ c κs. holds_at 1 c.requires.numbers) (λ c κs. holds_at 1 c.requires.numbers)
+    (λ c κs. holds_at 1 c.requires.numbers) (λ c κs. search rules) (λ c κs. search rules) (λ c. search rules) returns)

@@ -10,9 +10,9 @@ returns : tie.Need-returns
 returns c =
     let call = c.before.before.before.before in
     let n0 = call.before in
-    replied_as c.before.before.limit-reply.ensures
-    (ap (shown no_values) (rw n0.date-time.ensures at call.check-within-limits.ensures))
+    replied_as c.limit_reply.ensures
+    (ap (shown no_values) (rw n0.date_time-record.ensures at call.check_within_limits-answer.ensures))
 
-pub datetime-limits-spec : {M : Type 1} → statement M
-datetime-limits-spec =
-    tie.close (tie.spec (λ c κs. holds_at 9 c.before.requires.numbers) (λ c κs. search rules) (λ c κs. search rules) (λ c. search rules) returns)
+pub datetime_limits_spec : {M : Type 1} → statement M
+datetime_limits_spec =
+    tie.close (tie.spec (λ c κs. holds_at 9 c.requires.numbers) (λ c κs. search rules) (λ c κs. search rules) (λ c. search rules) returns)

@@ -13,12 +13,12 @@ returns c =
     let n2 = n3.before in
     let n1 = n2.before in
     let n0 = n1.before in
-    replied_as c.before.before.date-time-reply.ensures
-    (ap (shown date_time_values) (rw (n0.date-time.ensures, n1.unit.ensures, n2.word.ensures, n3.mode.ensures) at call.round.ensures))
+    replied_as c.date_time_reply.ensures
+    (ap (shown date_time_values) (rw (n0.date_time-record.ensures, n1.unit.ensures, n2.word.ensures, n3.mode.ensures) at call.round-answer.ensures))
 
-pub round-datetime-spec : {M : Type 1} → statement M
-round-datetime-spec =
+pub round_datetime_spec : {M : Type 1} → statement M
+round_datetime_spec =
     tie.close
-    (tie.spec (λ c κs. holds_at 9 c.before.requires.numbers) (λ c κs. holds_at 1 c.before.before.requires.numbers)
-    (λ c κs. holds_at 1 c.before.before.before.requires.numbers) (λ c κs. holds_at 1 c.before.before.before.before.requires.numbers)
+    (tie.spec (λ c κs. holds_at 9 c.requires.numbers) (λ c κs. holds_at 1 c.requires.numbers)
+    (λ c κs. holds_at 1 c.requires.numbers) (λ c κs. holds_at 1 c.requires.numbers)
     (λ c κs. search rules) (λ c κs. search rules) (λ c. search rules) returns)

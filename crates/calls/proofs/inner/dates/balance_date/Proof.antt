@@ -14,18 +14,18 @@ returns c =
     let n2 = call.before in
     let n1 = n2.before in
     let n0 = n1.before in
-    replied_as c.before.before.date-reply.ensures
+    replied_as c.date_reply.ensures
     (ap (shown date_values) (rw (
-      to_z-of_z {w = w32} {z = n0.int.result} (record { sfits = n0.int.type-inv }),
-      to_z-of_z {w = w32} {z = n1.int2.result} (record { sfits = n1.int2.type-inv }),
-      to_z-of_z {w = w64} {z = n2.long.result} (record { sfits = n2.long.type-inv }),
+      to_z-of_z {w = w32} {z = n0.int.result} (record { sfits = n0.int.type_inv }),
+      to_z-of_z {w = w32} {z = n1.int-2.result} (record { sfits = n1.int-2.type_inv }),
+      to_z-of_z {w = w64} {z = n2.long.result} (record { sfits = n2.long.type_inv }),
       n0.int.ensures,
-      n1.int2.ensures,
+      n1.int-2.ensures,
       n2.long.ensures,
-    ) at call.try-balance.ensures))
+    ) at call.try_balance-answer.ensures))
 
-pub balance-date-spec : {M : Type 1} → statement M
-balance-date-spec =
+pub balance_date_spec : {M : Type 1} → statement M
+balance_date_spec =
     tie.close
-    (tie.spec (λ c κs. holds_at 1 c.before.requires.numbers) (λ c κs. holds_at 1 c.before.before.requires.numbers)
-    (λ c κs. holds_at 1 c.before.before.before.requires.numbers) (λ c κs. search rules) (λ c κs. search rules) (λ c. search rules) returns)
+    (tie.spec (λ c κs. holds_at 1 c.requires.numbers) (λ c κs. holds_at 1 c.requires.numbers)
+    (λ c κs. holds_at 1 c.requires.numbers) (λ c κs. search rules) (λ c κs. search rules) (λ c. search rules) returns)

@@ -10,9 +10,9 @@ returns : tie.Need-returns
 returns c =
     let call = c.before.before.before.before in
     let n0 = call.before in
-    replied_as c.before.before.day-reply.ensures
-    (ap (shown whole_value) (rw n0.date.ensures at call.to-epoch-days.ensures))
+    replied_as c.day_reply.ensures
+    (ap (shown whole_value) (rw n0.date-date.ensures at call.to_epoch_days-answer.ensures))
 
-pub date-to-day-spec : {M : Type 1} → statement M
-date-to-day-spec =
-    tie.close (tie.spec (λ c κs. holds_at 3 c.before.requires.numbers) (λ c κs. search rules) (λ c κs. search rules) (λ c. search rules) returns)
+pub date_to_day_spec : {M : Type 1} → statement M
+date_to_day_spec =
+    tie.close (tie.spec (λ c κs. holds_at 3 c.requires.numbers) (λ c κs. search rules) (λ c κs. search rules) (λ c. search rules) returns)

@@ -12,12 +12,12 @@ returns : tie.Need-returns
 returns c =
     let call = c.before.before.before.before in
     let n0 = call.before in
-    replied_as c.before.before.date-reply.ensures
+    replied_as c.date_reply.ensures
     (ap (shown date_values) (rw (
-      to_z-of_z {w = w64} {z = n0.long.result} (record { sfits = n0.long.type-inv }),
+      to_z-of_z {w = w64} {z = n0.long.result} (record { sfits = n0.long.type_inv }),
       n0.long.ensures,
-    ) at call.from-epoch-days.ensures))
+    ) at call.from_epoch_days-answer.ensures))
 
-pub day-to-date-spec : {M : Type 1} → statement M
-day-to-date-spec =
-    tie.close (tie.spec (λ c κs. holds_at 1 c.before.requires.numbers) (λ c κs. search rules) (λ c κs. search rules) (λ c. search rules) returns)
+pub day_to_date_spec : {M : Type 1} → statement M
+day_to_date_spec =
+    tie.close (tie.spec (λ c κs. holds_at 1 c.requires.numbers) (λ c κs. search rules) (λ c κs. search rules) (λ c. search rules) returns)

@@ -13,15 +13,15 @@ returns c =
     let call = c.before.before.before.before in
     let n1 = call.before in
     let n0 = n1.before in
-    replied_as c.before.before.length-reply.ensures
+    replied_as c.length_reply.ensures
     (ap (shown natural_value) (rw (
-      to_z-of_z {w = w32} {z = n0.int.result} (record { sfits = n0.int.type-inv }),
+      to_z-of_z {w = w32} {z = n0.int.result} (record { sfits = n0.int.type_inv }),
       n0.int.ensures,
       n1.byte.ensures,
-    ) at call.iso-days-in-month.ensures))
+    ) at call.iso_days_in_month-answer.ensures))
 
-pub month-length-spec : {M : Type 1} → statement M
-month-length-spec =
+pub month_length_spec : {M : Type 1} → statement M
+month_length_spec =
     tie.close
-    (tie.spec (λ c κs. holds_at 1 c.before.requires.numbers) (λ c κs. holds_at 1 c.before.before.requires.numbers) (λ c κs. search rules)
+    (tie.spec (λ c κs. holds_at 1 c.requires.numbers) (λ c κs. holds_at 1 c.requires.numbers) (λ c κs. search rules)
     (λ c κs. search rules) (λ c. search rules) returns)

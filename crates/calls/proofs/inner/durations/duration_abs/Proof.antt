@@ -10,9 +10,9 @@ returns : tie.Need-returns
 returns c =
     let call = c.before.before.before.before in
     let n0 = call.before in
-    replied_as c.before.before.duration-reply.ensures
-    (ap (shown duration_values) (rw n0.duration.ensures at call.abs.ensures))
+    replied_as c.duration_reply.ensures
+    (ap (shown duration_values) (rw n0.duration-duration.ensures at call.abs-answer.ensures))
 
-pub duration-abs-spec : {M : Type 1} → statement M
-duration-abs-spec =
-    tie.close (tie.spec (λ c κs. holds_at 4 c.before.requires.numbers) (λ c κs. search rules) (λ c κs. search rules) (λ c. search rules) returns)
+pub duration_abs_spec : {M : Type 1} → statement M
+duration_abs_spec =
+    tie.close (tie.spec (λ c κs. holds_at 4 c.requires.numbers) (λ c κs. search rules) (λ c κs. search rules) (λ c. search rules) returns)

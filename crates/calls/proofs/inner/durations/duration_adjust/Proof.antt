@@ -15,18 +15,18 @@ returns c =
     let n2 = n3.before in
     let n1 = n2.before in
     let n0 = n1.before in
-    replied_as c.before.before.duration-reply.ensures
+    replied_as c.duration_reply.ensures
     (ap (shown duration_values) (rw (
-      to_z-of_z {w = w64} {z = n1.long.result} (record { sfits = n1.long.type-inv }),
-      n0.duration.ensures,
+      to_z-of_z {w = w64} {z = n1.long.result} (record { sfits = n1.long.type_inv }),
+      n0.duration-duration.ensures,
       n1.long.ensures,
       n2.part.ensures,
-      n3.part2.ensures,
-    ) at call.adjust.ensures))
+      n3.part-2.ensures,
+    ) at call.adjust-answer.ensures))
 
-pub duration-adjust-spec : {M : Type 1} → statement M
-duration-adjust-spec =
+pub duration_adjust_spec : {M : Type 1} → statement M
+duration_adjust_spec =
     tie.close
-    (tie.spec (λ c κs. holds_at 4 c.before.requires.numbers) (λ c κs. holds_at 1 c.before.before.requires.numbers)
-    (λ c κs. holds_at 2 c.before.before.before.requires.numbers) (λ c κs. holds_at 2 c.before.before.before.before.requires.numbers)
+    (tie.spec (λ c κs. holds_at 4 c.requires.numbers) (λ c κs. holds_at 1 c.requires.numbers)
+    (λ c κs. holds_at 2 c.requires.numbers) (λ c κs. holds_at 2 c.requires.numbers)
     (λ c κs. search rules) (λ c κs. search rules) (λ c. search rules) returns)

@@ -10,9 +10,9 @@ returns : tie.Need-returns
 returns c =
     let call = c.before.before.before.before in
     let n0 = call.before in
-    replied_as c.before.before.duration-reply.ensures
-    (ap (shown duration_values) (rw n0.duration.ensures at call.negated.ensures))
+    replied_as c.duration_reply.ensures
+    (ap (shown duration_values) (rw n0.duration-duration.ensures at call.negated-answer.ensures))
 
-pub duration-negated-spec : {M : Type 1} → statement M
-duration-negated-spec =
-    tie.close (tie.spec (λ c κs. holds_at 4 c.before.requires.numbers) (λ c κs. search rules) (λ c κs. search rules) (λ c. search rules) returns)
+pub duration_negated_spec : {M : Type 1} → statement M
+duration_negated_spec =
+    tie.close (tie.spec (λ c κs. holds_at 4 c.requires.numbers) (λ c κs. search rules) (λ c κs. search rules) (λ c. search rules) returns)

@@ -10,9 +10,9 @@ returns : tie.Need-returns
 returns c =
     let call = c.before.before.before.before in
     let n0 = call.before in
-    replied_as c.before.before.sign-reply.ensures
-    (ap (shown sign_value) (rw n0.duration.ensures at call.sign.ensures))
+    replied_as c.sign_reply.ensures
+    (ap (shown sign_value) (rw n0.duration-duration.ensures at call.sign-answer.ensures))
 
-pub duration-sign-spec : {M : Type 1} → statement M
-duration-sign-spec =
-    tie.close (tie.spec (λ c κs. holds_at 4 c.before.requires.numbers) (λ c κs. search rules) (λ c κs. search rules) (λ c. search rules) returns)
+pub duration_sign_spec : {M : Type 1} → statement M
+duration_sign_spec =
+    tie.close (tie.spec (λ c κs. holds_at 4 c.requires.numbers) (λ c κs. search rules) (λ c κs. search rules) (λ c. search rules) returns)

@@ -12,11 +12,11 @@ returns c =
     let n2 = call.before in
     let n1 = n2.before in
     let n0 = n1.before in
-    replied_as c.before.before.date-difference-reply.ensures
-    (ap (shown date_difference_values) (rw (n0.date.ensures, n1.date2.ensures, n2.unit.ensures) at call.diff-iso-date.ensures))
+    replied_as c.date_difference_reply.ensures
+    (ap (shown date_difference_values) (rw (n0.date.ensures, n1.date-2.ensures, n2.unit.ensures) at call.diff_iso_date-answer.ensures))
 
-pub date-difference-spec : {M : Type 1} → statement M
-date-difference-spec =
+pub date_difference_spec : {M : Type 1} → statement M
+date_difference_spec =
     tie.close
-    (tie.spec (λ c κs. holds_at 3 c.before.requires.numbers) (λ c κs. holds_at 3 c.before.before.requires.numbers)
-    (λ c κs. holds_at 1 c.before.before.before.requires.numbers) (λ c κs. search rules) (λ c κs. search rules) (λ c. search rules) returns)
+    (tie.spec (λ c κs. holds_at 3 c.requires.numbers) (λ c κs. holds_at 3 c.requires.numbers)
+    (λ c κs. holds_at 1 c.requires.numbers) (λ c κs. search rules) (λ c κs. search rules) (λ c. search rules) returns)

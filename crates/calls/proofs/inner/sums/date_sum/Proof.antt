@@ -12,11 +12,11 @@ returns c =
     let n2 = call.before in
     let n1 = n2.before in
     let n0 = n1.before in
-    replied_as c.before.before.date-reply.ensures
-    (ap (shown date_values) (rw (n0.date.ensures, n1.duration.ensures, n2.overflow.ensures) at call.add-date-duration.ensures))
+    replied_as c.date_reply.ensures
+    (ap (shown date_values) (rw (n0.date.ensures, n1.duration.ensures, n2.overflow.ensures) at call.add_date_duration-answer.ensures))
 
-pub date-sum-spec : {M : Type 1} → statement M
-date-sum-spec =
+pub date_sum_spec : {M : Type 1} → statement M
+date_sum_spec =
     tie.close
-    (tie.spec (λ c κs. holds_at 3 c.before.requires.numbers) (λ c κs. holds_at 4 c.before.before.requires.numbers)
-    (λ c κs. holds_at 1 c.before.before.before.requires.numbers) (λ c κs. search rules) (λ c κs. search rules) (λ c. search rules) returns)
+    (tie.spec (λ c κs. holds_at 3 c.requires.numbers) (λ c κs. holds_at 4 c.requires.numbers)
+    (λ c κs. holds_at 1 c.requires.numbers) (λ c κs. search rules) (λ c κs. search rules) (λ c. search rules) returns)

@@ -11,11 +11,11 @@ returns c =
     let call = c.before.before.before.before in
     let n1 = call.before in
     let n0 = n1.before in
-    replied_as c.before.before.time-reply.ensures
-    (ap (shown time_values) (rw (n0.time.ensures, n1.overflow.ensures) at call.new.ensures))
+    replied_as c.time_reply.ensures
+    (ap (shown time_values) (rw (n0.time-time.ensures, n1.overflow.ensures) at call.new-answer.ensures))
 
-pub regulate-time-spec : {M : Type 1} → statement M
-regulate-time-spec =
+pub regulate_time_spec : {M : Type 1} → statement M
+regulate_time_spec =
     tie.close
-    (tie.spec (λ c κs. holds_at 6 c.before.requires.numbers) (λ c κs. holds_at 1 c.before.before.requires.numbers) (λ c κs. search rules)
+    (tie.spec (λ c κs. holds_at 6 c.requires.numbers) (λ c κs. holds_at 1 c.requires.numbers) (λ c κs. search rules)
     (λ c κs. search rules) (λ c. search rules) returns)

@@ -14,16 +14,16 @@ returns c =
     let n2 = call.before in
     let n1 = n2.before in
     let n0 = n1.before in
-    replied_as c.before.before.rounded-reply.ensures
+    replied_as c.rounded_reply.ensures
     (ap (shown whole_value) (rw (
-      to_z-of_z {w = w64} {z = n0.long.result} (record { sfits = n0.long.type-inv }),
+      to_z-of_z {w = w64} {z = n0.long.result} (record { sfits = n0.long.type_inv }),
       n0.long.ensures,
       n1.word.ensures,
       n2.mode.ensures,
-    ) at call.round.ensures))
+    ) at call.round-answer.ensures))
 
-pub round-number-spec : {M : Type 1} → statement M
-round-number-spec =
+pub round_number_spec : {M : Type 1} → statement M
+round_number_spec =
     tie.close
-    (tie.spec (λ c κs. holds_at 1 c.before.requires.numbers) (λ c κs. holds_at 1 c.before.before.requires.numbers)
-    (λ c κs. holds_at 1 c.before.before.before.requires.numbers) (λ c κs. search rules) (λ c κs. search rules) (λ c. search rules) returns)
+    (tie.spec (λ c κs. holds_at 1 c.requires.numbers) (λ c κs. holds_at 1 c.requires.numbers)
+    (λ c κs. holds_at 1 c.requires.numbers) (λ c κs. search rules) (λ c κs. search rules) (λ c. search rules) returns)

@@ -13,12 +13,12 @@ returns c =
     let n2 = n3.before in
     let n1 = n2.before in
     let n0 = n1.before in
-    replied_as c.before.before.balance-reply.ensures
-    (ap (shown balanced_values) (rw (n0.time.ensures, n1.unit.ensures, n2.word.ensures, n3.mode.ensures) at call.round.ensures))
+    replied_as c.balance_reply.ensures
+    (ap (shown balanced_values) (rw (n0.time-time.ensures, n1.unit.ensures, n2.word.ensures, n3.mode.ensures) at call.round-answer.ensures))
 
-pub round-time-spec : {M : Type 1} → statement M
-round-time-spec =
+pub round_time_spec : {M : Type 1} → statement M
+round_time_spec =
     tie.close
-    (tie.spec (λ c κs. holds_at 6 c.before.requires.numbers) (λ c κs. holds_at 1 c.before.before.requires.numbers)
-    (λ c κs. holds_at 1 c.before.before.before.requires.numbers) (λ c κs. holds_at 1 c.before.before.before.before.requires.numbers)
+    (tie.spec (λ c κs. holds_at 6 c.requires.numbers) (λ c κs. holds_at 1 c.requires.numbers)
+    (λ c κs. holds_at 1 c.requires.numbers) (λ c κs. holds_at 1 c.requires.numbers)
     (λ c κs. search rules) (λ c κs. search rules) (λ c. search rules) returns)

@@ -11,11 +11,11 @@ returns c =
     let call = c.before.before.before.before in
     let n1 = call.before in
     let n0 = n1.before in
-    replied_as c.before.before.span-reply.ensures
-    (ap (shown span_values) (rw (n0.time.ensures, n1.time2.ensures) at call.diff.ensures))
+    replied_as c.span_reply.ensures
+    (ap (shown span_values) (rw (n0.time-one.ensures, n1.time.ensures) at call.diff-answer.ensures))
 
-pub time-difference-spec : {M : Type 1} → statement M
-time-difference-spec =
+pub time_difference_spec : {M : Type 1} → statement M
+time_difference_spec =
     tie.close
-    (tie.spec (λ c κs. holds_at 6 c.before.requires.numbers) (λ c κs. holds_at 6 c.before.before.requires.numbers) (λ c κs. search rules)
+    (tie.spec (λ c κs. holds_at 6 c.requires.numbers) (λ c κs. holds_at 6 c.requires.numbers) (λ c κs. search rules)
     (λ c κs. search rules) (λ c. search rules) returns)

@@ -12,33 +12,33 @@ use Rattle.parameters.proofs.inner.values.duration.Tie as tie
 long-requires : tie.Need-long-requires
 long-requires c κs = holds_first 1 c.requires
 
-add-long : tie.Need-overflow-add-long
+add-long : tie.Need-overflow_add-i
 add-long c = let s = c.before in omega (arith, in_array (signed 64) _ s.args.n s.args.i s.requires)
 
 long-requires-2 : tie.Need-long-requires-2
-long-requires-2 c κs = holds_from 1 1 c.before.requires
+long-requires-2 c κs = holds_from 1 1 c.requires
 
-add-long-2 : tie.Need-overflow-add-long-2
+add-long-2 : tie.Need-overflow_add-i-2
 add-long-2 c = let s = c.before.before in omega (arith, in_array (signed 64) _ s.args.n s.args.i s.requires)
 
 long-requires-3 : tie.Need-long-requires-3
-long-requires-3 c κs = holds_from 2 1 c.before.before.requires
+long-requires-3 c κs = holds_from 2 1 c.requires
 
-add-long-3 : tie.Need-overflow-add-long-3
+add-long-3 : tie.Need-overflow_add-i-3
 add-long-3 c = let s = c.before.before.before in omega (arith, in_array (signed 64) _ s.args.n s.args.i s.requires)
 
 long-requires-4 : tie.Need-long-requires-4
-long-requires-4 c κs = holds_from 3 1 c.before.before.before.requires
+long-requires-4 c κs = holds_from 3 1 c.requires
 
 returns : tie.Need-returns
 returns c =
     same_duration _ _ _ _ _ _ _ _
-    (to_z-of_z {w = w64} {z = c.before.before.before.long.result} (record { sfits = c.before.before.before.long.type-inv }) ∙
-    c.before.before.before.long.ensures)
-    (to_z-of_z {w = w64} {z = c.before.before.long2.result} (record { sfits = c.before.before.long2.type-inv }) ∙ c.before.before.long2.ensures)
-    (to_z-of_z {w = w64} {z = c.before.long3.result} (record { sfits = c.before.long3.type-inv }) ∙ c.before.long3.ensures)
-    (to_z-of_z {w = w64} {z = c.long4.result} (record { sfits = c.long4.type-inv }) ∙ c.long4.ensures)
+    (to_z-of_z {w = w64} {z = c.long.result} (record { sfits = c.long.type_inv }) ∙
+    c.long.ensures)
+    (to_z-of_z {w = w64} {z = c.long-2.result} (record { sfits = c.long-2.type_inv }) ∙ c.long-2.ensures)
+    (to_z-of_z {w = w64} {z = c.long-3.result} (record { sfits = c.long-3.type_inv }) ∙ c.long-3.ensures)
+    (to_z-of_z {w = w64} {z = c.long-4.result} (record { sfits = c.long-4.type_inv }) ∙ c.long-4.ensures)
 
-pub duration-spec : {M : Type 1} → statement M
-duration-spec =
+pub duration_spec : {M : Type 1} → statement M
+duration_spec =
     tie.close (tie.spec long-requires add-long long-requires-2 add-long-2 long-requires-3 add-long-3 long-requires-4 returns)

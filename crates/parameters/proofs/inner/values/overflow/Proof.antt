@@ -12,15 +12,15 @@ use Rattle.parameters.proofs.inner.values.overflow.Tie as tie
 word-requires : tie.Need-word-requires
 word-requires c κs = wider overflow_kind (unsigned 64) c.args.n c.args.i refl refl c.requires
 
-returns : tie.Need-returns
+returns : tie.Need-returns-then-word-eq0
 returns c =
-    let a = c.before.before.args in
-    choice_first _ (at (numbers_in a.n) a.i) Constrain Reject c.before.word.ensures c.if1.true
+    let a = c.args in
+    choice_first _ (at (numbers_in a.n) a.i) Constrain Reject c.word.ensures c.if-word-eq0.true
 
-returns-2 : tie.Need-returns-2
+returns-2 : tie.Need-returns
 returns-2 c =
-    let a = c.before.before.args in
-    choice_second _ (at (numbers_in a.n) a.i) Constrain Reject c.before.word.ensures c.if1.false
+    let a = c.args in
+    choice_second _ (at (numbers_in a.n) a.i) Constrain Reject c.word.ensures c.if-word-eq0.false
 
-pub overflow-spec : {M : Type 1} → statement M
-overflow-spec = tie.close (tie.spec word-requires returns returns-2)
+pub overflow_spec : {M : Type 1} → statement M
+overflow_spec = tie.close (tie.spec word-requires returns returns-2)

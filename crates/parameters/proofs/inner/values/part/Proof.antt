@@ -16,22 +16,22 @@ use Rattle.parameters.proofs.inner.values.part.Tie as tie
 word-requires : tie.Need-word-requires
 word-requires c κs = wider (one_of 2) (unsigned 64) c.args.n c.args.i refl refl (holds_first 1 c.requires)
 
-returns : tie.Need-returns
+returns : tie.Need-returns-then-word-eq0
 returns c =
-    let a = c.before.before.args in
-    choice_first _ (at (numbers_in a.n) a.i) Kept (Given (at (numbers_in a.n) (a.i + 1))) c.before.word.ensures c.if1.true
+    let a = c.args in
+    choice_first _ (at (numbers_in a.n) a.i) Kept (Given (at (numbers_in a.n) (a.i + 1))) c.word.ensures c.if-word-eq0.true
 
-add-long : tie.Need-overflow-add-long
+add-long : tie.Need-overflow_add-i
 add-long c = let s = c.before.before in omega (arith, in_array (one_of 2) _ s.args.n s.args.i s.requires)
 
 long-requires : tie.Need-long-requires
-long-requires c κs = holds_from 1 1 c.before.before.requires
+long-requires c κs = holds_from 1 1 c.requires
 
-returns-2 : tie.Need-returns-2
+returns-2 : tie.Need-returns
 returns-2 c =
-    let a = c.before.before.before.args in
-    ap (λ (z : ℤ). Given z) (to_z-of_z {w = w64} {z = c.long.result} (record { sfits = c.long.type-inv }) ∙ c.long.ensures) ∙
-    choice_second _ (at (numbers_in a.n) a.i) Kept (Given (at (numbers_in a.n) (a.i + 1))) c.before.before.word.ensures c.before.if1.false
+    let a = c.args in
+    ap (λ (z : ℤ). Given z) (to_z-of_z {w = w64} {z = c.long.result} (record { sfits = c.long.type_inv }) ∙ c.long.ensures) ∙
+    choice_second _ (at (numbers_in a.n) a.i) Kept (Given (at (numbers_in a.n) (a.i + 1))) c.word.ensures c.if-word-eq0.false
 
-pub part-spec : {M : Type 1} → statement M
-part-spec = tie.close (tie.spec word-requires returns add-long long-requires returns-2)
+pub part_spec : {M : Type 1} → statement M
+part_spec = tie.close (tie.spec word-requires returns add-long long-requires returns-2)

@@ -16,5 +16,5 @@ returns c =
     let k = in_kind room_kind [] s.args.n s.args.i s.requires in
     (c.word.ensures, rw c.word.ensures (small _ 64 k.0 k.1))
 
-pub room-spec : {M : Type 1} → statement M
-room-spec = tie.close (tie.spec word-requires returns)
+pub room_spec : {M : Type 1} → statement M
+room_spec = tie.close (tie.spec word-requires returns)

@@ -8,17 +8,17 @@ use Rattle.parameters.specs.Parameters.{unit_kind}
 use Rattle.parameters.proofs.inner.values.unit.Statement.{statement}
 use Rattle.parameters.proofs.inner.values.unit.Tie as tie
 
-word-requires : tie.Need-word-requires
+word-requires : tie.Need-word-place-requires
 word-requires c κs = wider unit_kind (unsigned 64) c.args.n c.args.i refl refl c.requires
 
-array-copy-out-result : tie.Need-array-copy-out-result
+array-copy-out-result : tie.Need-bounds-place-place
 array-copy-out-result c =
     let s = c.before in
     let k = in_kind unit_kind [] s.args.n s.args.i s.requires in
-    rw c.word.ensures (omega (arith, small _ 9 k.0 k.1))
+    rw c.word-place.ensures (omega (arith, small _ 9 k.0 k.1))
 
 returns : tie.Need-returns
-returns c = rw c.before.word.ensures
+returns c = rw c.word-place.ensures
 
 pub unit_spec : {M : Type 1} → statement M
 unit_spec = tie.close (tie.spec word-requires array-copy-out-result returns)

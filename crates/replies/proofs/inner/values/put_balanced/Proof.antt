@@ -14,9 +14,9 @@ unfolding spaced
 returns c =
     let time = c.before.before in
     let days = time.before.before.before.before in
-    let n = days.before.before.before.before.before.args.b.days in
+    let n = days.args.b.days in
     let back : to_z w64 (of_z w64 n) ≡ n = search rules in
-    (after (rw back at days.put-integer.ensures.0) time.put-time.ensures.0, omega arith)
+    (after (rw back at days.put_integer-time.ensures.0) time.put_time.ensures.0, omega arith)
 
-pub put-balanced-spec : {M : Type 1} → statement M
-put-balanced-spec = tie.close (tie.spec (λ c κs. search rules) (λ c κs. search rules) (λ c. search rules) returns)
+pub put_balanced_spec : {M : Type 1} → statement M
+put_balanced_spec = tie.close (tie.spec (λ c κs. search rules) (λ c κs. search rules) (λ c. search rules) returns)

@@ -12,10 +12,10 @@ returns : tie.Need-returns
 returns c =
     let time = c.before.before in
     let date = time.before.before.before.before in
-    let r = date.before.before.before.before.before.args.r in (
-      wrote_as (after date.put-date.ensures.0 time.put-time.ensures.0) (sym (spaced_append (date_values r.date) (time_values r.time))),
+    let r = date.args.r in (
+      wrote_as (after date.put_date-time.ensures.0 time.put_time.ensures.0) (sym (spaced_append (date_values r.date) (time_values r.time))),
       omega arith,
     )
 
-pub put-date-time-spec : {M : Type 1} → statement M
-put-date-time-spec = tie.close (tie.spec (λ c κs. search rules) (λ c κs. search rules) (λ c. search rules) returns)
+pub put_date_time_spec : {M : Type 1} → statement M
+put_date_time_spec = tie.close (tie.spec (λ c κs. search rules) (λ c κs. search rules) (λ c. search rules) returns)

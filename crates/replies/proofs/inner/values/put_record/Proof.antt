@@ -12,11 +12,11 @@ returns : tie.Need-returns
 returns c =
     let time = c.before.before in
     let date = time.before.before.before.before in
-    let r = date.before.before.before.before.before.args.r in (
-      wrote_as (after date.put-duration.ensures.0 time.put-span.ensures.0) (sym (spaced_append (duration_values r.date)
+    let r = date.args.r in (
+      wrote_as (after date.put_duration-time.ensures.0 time.put_span.ensures.0) (sym (spaced_append (duration_values r.date)
           (span_values r.time))),
       omega arith,
     )
 
-pub put-record-spec : {M : Type 1} → statement M
-put-record-spec = tie.close (tie.spec (λ c κs. search rules) (λ c κs. search rules) (λ c. search rules) returns)
+pub put_record_spec : {M : Type 1} → statement M
+put_record_spec = tie.close (tie.spec (λ c κs. search rules) (λ c κs. search rules) (λ c. search rules) returns)

@@ -14,10 +14,10 @@ unfolding spaced
 returns c =
     let rest = c.before.before in
     let whole = rest.before.before.before.before.before in
-    let d = whole.before.before.before.before.args.d in
+    let d = whole.args.d in
     let s : to_z w64 (of_z w64 d.seconds) ≡ d.seconds = search rules in
     let n : to_z w64 (of_z w64 d.nanoseconds) ≡ d.nanoseconds = search rules in
-    (rw (s, n) at (after whole.put-integer.ensures.0 (after rest.put-integer2.ensures.0 (nothing _ _))), omega arith)
+    (rw (s, n) at (after whole.put_integer-nanoseconds.ensures.0 (after rest.put_integer.ensures.0 (nothing _ _))), omega arith)
 
-pub put-span-spec : {M : Type 1} → statement M
-put-span-spec = tie.close (tie.spec (λ c κs. search rules) (λ c κs. search rules) (λ c. search rules) returns)
+pub put_span_spec : {M : Type 1} → statement M
+put_span_spec = tie.close (tie.spec (λ c κs. search rules) (λ c κs. search rules) (λ c. search rules) returns)

@@ -9,13 +9,13 @@ use Rattle.replies.proofs.inner.values.put_time.Statement.{statement}
 use Rattle.replies.proofs.inner.values.put_time.Tie as tie
 
 -- three fields are written, and there is room for the other three
-room : (c : tie.After-put-natural3) → c.put-natural3.result + 63 ≤ length c.put-natural3.new.0
+room : (c : tie.After-put_natural-millisecond) → c.put_natural-millisecond.result + 63 ≤ length c.put_natural-millisecond.new.0
 room c = search rules
 
-put-natural-requires-5 : tie.Need-put-natural-requires-5
+put-natural-requires-5 : tie.Need-put_natural-nanosecond-requires
 put-natural-requires-5 c κs = omega (arith, room c.before.before.before.before.before.before.before.before.before)
 
-put-natural-requires-6 : tie.Need-put-natural-requires-6
+put-natural-requires-6 : tie.Need-put_natural-requires
 put-natural-requires-6 c κs =
     let microsecond = c.before.before.before.before in
     omega (arith, room microsecond.before.before.before.before.before.before.before.before.before.before)
@@ -29,17 +29,17 @@ returns c =
     let second = millisecond.before.before.before.before.before in
     let minute = second.before.before.before.before.before in
     let hour = minute.before.before.before.before.before in
-    let later = after millisecond.put-natural4.ensures.0 (after microsecond.put-natural5.ensures.0
-    (after nanosecond.put-natural6.ensures.0 (nothing _ _))) in (
-      after hour.put-natural.ensures.0 (after minute.put-natural2.ensures.0 (after second.put-natural3.ensures.0 later)),
-      omega (arith, hour.put-natural.ensures, minute.put-natural2.ensures),
+    let later = after millisecond.put_natural-microsecond.ensures.0 (after microsecond.put_natural-nanosecond.ensures.0
+    (after nanosecond.put_natural.ensures.0 (nothing _ _))) in (
+      after hour.put_natural-minute.ensures.0 (after minute.put_natural-second.ensures.0 (after second.put_natural-millisecond.ensures.0 later)),
+      omega (arith, hour.put_natural-minute.ensures, minute.put_natural-second.ensures),
     )
 
-same_length : tie.Need-same-length
+same_length : tie.Need-shape_of-out
 same_length c = (returns c).0.sized
 
-pub put-time-spec : {M : Type 1} → statement M
-put-time-spec =
+pub put_time_spec : {M : Type 1} → statement M
+put_time_spec =
     tie.close
     (tie.spec (λ c. search rules) (λ c κs. search rules) (λ c. search rules) (λ c κs. search rules) (λ c. search rules) (λ c κs. search rules)
     (λ c. search rules) (λ c κs. search rules) (λ c. search rules) put-natural-requires-5 (λ c. search rules) put-natural-requires-6 same_length
