@@ -195,6 +195,8 @@ class Turner:
         text = re.sub(PLACE, place, text)
         text = re.sub(r"tie\.(invariant|decreases)_(" + TOKEN + ")", lambda m: "tie." + m.group(1) + "-" + self.n.loops.get(plain(m.group(2)), m.group(2)), text)
         text = re.sub(r"\.type-inv\b", ".type_inv", text)
+        # the test of `if !f(x)` says `f(x) ≡ false` itself today
+        text = re.sub(r"\bnot-(?:true|false) [^\s()]+ ([a-z]\w*\.if-not-" + TOKEN + r"\.(?:true|false))", r"\1", text)
         last = function.split(".")[-1]
         text = re.sub(r"\b" + re.escape(last.replace("_", "-")) + r"-spec\b", last + "_spec", text)
         count = arguments(text)

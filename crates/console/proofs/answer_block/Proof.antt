@@ -34,7 +34,7 @@ returns : tie.Need-returns-then-not-write_out invariant_loop decreases_loop
 returns c =
     let w = c.before in
     let t = w.before.before.before.before.before.before in
-    (t.take_lines-state.ensures.0.inside.have_inside, λ z. clash _ (w.write_out.ensures z) (not-true _ c.if-not-write_out.true))
+    (t.take_lines-state.ensures.0.inside.have_inside, λ z. clash _ (w.write_out.ensures z) (c.if-not-write_out.true))
 
 loop-less : tie.Need-loop-state-smaller invariant_loop decreases_loop
 loop-less c =

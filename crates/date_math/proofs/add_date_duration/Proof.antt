@@ -19,8 +19,8 @@ use Rattle.date_math.proofs.add_date_duration.Tie as tie
 date_passed : (c : tie.In_default) → given tt ≡ date_limits c.args.date
 date_passed c = sym (ap of_limit c.in_default.is) ∙ c.check_within_limits.ensures
 
-duration_passed : (c : tie.Else1) → is_valid_duration c.args.duration ≡ true
-duration_passed c = sym c.is_valid.ensures ∙ not-false _ c.if-not-is_valid.false
+duration_passed : (c : tie.Else-not-is_valid) → is_valid_duration c.args.duration ≡ true
+duration_passed c = sym c.is_valid.ensures ∙ c.if-not-is_valid.false
 
 -- what moving and regulating gave
 regulated : (c : tie.After-moved-regulated) → let s = c.args in
@@ -35,7 +35,7 @@ returns : tie.Need-returns-in-Refused
 returns c = let a = c in sum_date _ _ _ _ (sym (ap of_limit a.in-Refused.is) ∙ a.check_within_limits.ensures)
 
 returns-2 : tie.Need-returns-then-not-is_valid
-returns-2 c = sum_duration _ _ _ (date_passed c.before.before) (sym c.is_valid.ensures ∙ not-true _ c.if-not-is_valid.true)
+returns-2 c = sum_duration _ _ _ (date_passed c.before.before) (sym c.is_valid.ensures ∙ c.if-not-is_valid.true)
 
 moved-requires : tie.Need-moved-regulated-requires
 moved-requires c κs =

@@ -19,7 +19,7 @@ text c = c.args.text.now
 date_took : (c : tie.In-Is) → date_form (text c) ≡ took c.in-Is.date (drop c.in-Is.end (text c))
 date_took c = (date_there c.date_at.ensures c.in-Is.is).0
 
-the_date : (c : tie.Else1) → wholly (date_form (text c.before)) ≡ given c.in-Is.date
+the_date : (c : tie.Else-end-text) → wholly (date_form (text c.before)) ≡ given c.in-Is.date
 the_date c = used_up _ _ _ _ (date_took c.before) c.if-end-text.false
 
 returns : tie.Need-returns-in_default

@@ -26,13 +26,13 @@ date_took : (c : tie.In-Is) → (date_form (text c) ≡ took c.in-Is.date (drop 
 date_took c = date_there c.date_at.ensures c.in-Is.is
 
 -- where a byte stands after the date
-inside : (c : tie.Else1) → mark c.before < length (text c.before)
+inside : (c : tie.Else-mark-text) → mark c.before < length (text c.before)
 inside c = omega (arith, (date_took c.before).1)
 
 -- after the T
-the_T : (c : tie.Else2) → marked capital_t time_form (drop (mark c.before) (text c.before)) ≡
-    time_form (drop (mark c.before + 1) (text c.before))
-the_T c = let d = c.before in the_mark (text d) (mark d) capital_t time_form (inside c.before.before) c.if-text-mark-ne84.false
+the_T : (c : tie.Else-text-mark-ne84) → marked capital_t time_form (drop (mark c.before.before.before) (text c.before.before.before)) ≡
+    time_form (drop (mark c.before.before.before + 1) (text c.before.before.before))
+the_T c = let d = c.before.before.before in the_mark (text d) (mark d) capital_t time_form (inside c.before.before) c.if-text-mark-ne84.false
 
 abbrev date_place : tie.In-Is-time_at → tie.In-Is
 date_place c = c.before.before.before.before.before
@@ -45,7 +45,7 @@ stamp_took c =
     let t = c.before in
     rw ((date_took (date_place c)).0, the_T t.before, (time_there t.time_at.ensures c.in-Is-time_at.is).0)
 
-the_stamp : (c : tie.Else3) →
+the_stamp : (c : tie.Else-end-text) →
     wholly (date_time_form (text (date_place c.before))) ≡
     given (date_time (date_place c.before).in-Is.date c.in-Is-time_at.time)
 the_stamp c = used_up _ _ _ _ (stamp_took c.before) c.if-end-text.false

@@ -20,7 +20,7 @@ text c = c.args.text.now
 time_took : (c : tie.In-Is) → time_form (text c) ≡ took c.in-Is.time (drop c.in-Is.end (text c))
 time_took c = (time_there c.time_at.ensures c.in-Is.is).0
 
-the_time : (c : tie.Else1) → wholly (time_form (text c.before)) ≡ given c.in-Is.time
+the_time : (c : tie.Else-end-text) → wholly (time_form (text c.before)) ≡ given c.in-Is.time
 the_time c = used_up _ _ _ _ (time_took c.before) c.if-end-text.false
 
 returns : tie.Need-returns-in_default
@@ -35,13 +35,13 @@ returns-3 : tie.Need-returns-then-not-is_valid
 unfolding read_time
 returns-3 c =
     let v = c.before in
-    rw (the_time v.before, sym v.is_valid.ensures ∙ not-true v.is_valid.result c.if-not-is_valid.true)
+    rw (the_time v.before, sym v.is_valid.ensures ∙ c.if-not-is_valid.true)
 
 returns-4 : tie.Need-returns
 unfolding read_time
 returns-4 c =
     let v = c.before in
-    rw (the_time v.before, sym v.is_valid.ensures ∙ not-false v.is_valid.result c.if-not-is_valid.false)
+    rw (the_time v.before, sym v.is_valid.ensures ∙ c.if-not-is_valid.false)
 
 pub read_time_spec : {M : Type 1} → statement M
 read_time_spec =

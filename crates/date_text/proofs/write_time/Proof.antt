@@ -16,12 +16,12 @@ use Rattle.date_text.proofs.Answers.{too_short, has_room, refuses, writes}
 use Rattle.date_text.proofs.write_time.Statement.{statement}
 use Rattle.date_text.proofs.write_time.Tie as tie
 
-not_valid : (c : tie.Then1) (room : ℕ) → write_time c.before.before.before.args.time room ≡ refused 1
+not_valid : (c : tie.Then-not-is_valid) (room : ℕ) → write_time c.args.time room ≡ refused 1
 unfolding write_time
-not_valid c room = rw (sym c.before.is_valid.ensures ∙ not-true c.before.is_valid.result c.if1.true)
+not_valid c room = rw (sym c.is_valid.ensures ∙ c.if-not-is_valid.true)
 
-valid : (c : tie.Else1) → is_valid_time c.before.before.before.args.time ≡ true
-valid c = sym c.before.is_valid.ensures ∙ not-false c.before.is_valid.result c.if1.false
+valid : (c : tie.Else-not-is_valid) → is_valid_time c.args.time ≡ true
+valid c = sym c.is_valid.ensures ∙ c.if-not-is_valid.false
 
 returns : tie.Need-returns-then-not-is_valid
 returns c = refuses _ _ _ (not_valid c _)

@@ -11,7 +11,7 @@ use Rattle.date_duration.proofs.DateDuration.adjust.Tie as tie
 
 returns : tie.Need-returns-then-not-is_valid
 unfolding duration_adjust
-returns c = rw (sym c.is_valid.ensures ∙ not-true _ c.if-not-is_valid.true)
+returns c = rw (sym c.is_valid.ensures ∙ c.if-not-is_valid.true)
 
 returns-2 : tie.Need-returns
 returns-2 c =
@@ -22,7 +22,7 @@ returns-2 c =
     let a = s.args in
     let g = c.struct_told-3-1.given in
     c.new.ensures ∙
-    adjust_is a.self _ _ _ _ _ _ _ (sym v.is_valid.ensures ∙ not-false _ v.if-not-is_valid.false) (to_z-of_z (record { sfits = g.0.1 }))
+    adjust_is a.self _ _ _ _ _ _ _ (sym v.is_valid.ensures ∙ v.if-not-is_valid.false) (to_z-of_z (record { sfits = g.0.1 }))
     (part_is (kept_or a.months) g.1.0.1 k1.kept_or.type_inv k1.kept_or.ensures)
     (part_is (kept_or a.weeks) g.1.1.0.1 k2.kept_or-2.type_inv k2.kept_or-2.ensures) (to_z-of_z s.ranges.days)
 

@@ -12,10 +12,10 @@ use Rattle.date_duration.proofs.DateDuration.negated.Tie as tie
 
 returns : tie.Need-returns-then-not-is_valid
 unfolding duration_negated
-returns c = rw (sym c.is_valid.ensures ∙ not-true _ c.if-not-is_valid.true)
+returns c = rw (sym c.is_valid.ensures ∙ c.if-not-is_valid.true)
 
-is_valid : (c : tie.Else1) → is_valid_duration c.args.self ≡ true
-is_valid c = sym c.is_valid.ensures ∙ not-false _ c.if-not-is_valid.false
+is_valid : (c : tie.Else-not-is_valid) → is_valid_duration c.args.self ≡ true
+is_valid c = sym c.is_valid.ensures ∙ c.if-not-is_valid.false
 
 parts : (c : tie.After-struct_told-1) → AllTurnable c.args.self
 parts c =

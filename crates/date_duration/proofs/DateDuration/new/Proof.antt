@@ -16,13 +16,13 @@ valid_is c =
 
 returns : tie.Need-returns-then-not-are_valid
 unfolding new_duration
-returns c = rw (sym (valid_is c.before) ∙ not-true _ c.if-not-are_valid.true)
+returns c = rw (sym (valid_is c.before) ∙ c.if-not-are_valid.true)
 
 returns-2 : tie.Need-returns
 unfolding new_duration
 returns-2 c =
     let f = c.ranges in
-    rw (to_z-of_z f.years, to_z-of_z f.months, to_z-of_z f.weeks, to_z-of_z f.days, sym (valid_is c.before) ∙ not-false _ c.if-not-are_valid.false)
+    rw (to_z-of_z f.years, to_z-of_z f.months, to_z-of_z f.weeks, to_z-of_z f.days, sym (valid_is c.before) ∙ c.if-not-are_valid.false)
 
 pub new_spec : {M : Type 1} → statement M
 new_spec = tie.close (tie.spec (λ c κs. search rules) returns returns-2)

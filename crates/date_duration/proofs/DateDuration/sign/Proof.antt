@@ -9,7 +9,7 @@ use Rattle.date_duration.proofs.DateDuration.sign.Tie as tie
 
 returns : tie.Need-returns-then-not-is_valid
 unfolding duration_sign
-returns c = rw (sym c.is_valid.ensures ∙ not-true _ c.if-not-is_valid.true)
+returns c = rw (sym c.is_valid.ensures ∙ c.if-not-is_valid.true)
 
 returns-2 : tie.Need-returns
 unfolding duration_sign
@@ -18,7 +18,7 @@ returns-2 c =
     let v = c.before.before.before.before.before in
     let d = v.args.self in
     rw (
-      sym v.is_valid.ensures ∙ not-false _ v.if-not-is_valid.false,
+      sym v.is_valid.ensures ∙ v.if-not-is_valid.false,
       c.first_sign.ensures,
       handed d g.0.1 g.1.0.1 g.1.1.0.1 g.1.1.1.0.1,
     )

@@ -11,13 +11,13 @@ use Rattle.date_forms.proofs.Texts.{sixty, not_sixty}
 use Rattle.date_forms.proofs.inner.clock.Statement.{statement}
 use Rattle.date_forms.proofs.inner.clock.Tie as tie
 
-read_is : (c : tie.Joined1) → c.if1.read ≡ cond (eqb c.before.args.second 60) 59 c.before.args.second
+read_is : (c : tie.Joined-second-eq60) → c.if-second-eq60.read ≡ cond (eqb c.args.second 60) 59 c.args.second
 read_is c =
-    ⊎_elim (λ w. sixty c.before.args.second c.if1.read w.0.taken w.1)
-    (λ w. not_sixty c.before.args.second c.if1.read w.0.left w.1) c.if1.branch
+    ⊎_elim (λ w. sixty c.args.second c.if-second-eq60.read w.0.taken w.1)
+    (λ w. not_sixty c.args.second c.if-second-eq60.read w.0.left w.1) c.if-second-eq60.branch
 
-small : (c : tie.Joined1) → c.if1.read < 100
-small c = ⊎_elim (λ w. omega (arith, w.1)) (λ w. omega (arith, w.1)) c.if1.branch
+small : (c : tie.Joined-second-eq60) → c.if-second-eq60.read < 100
+small c = ⊎_elim (λ w. omega (arith, w.1)) (λ w. omega (arith, w.1)) c.if-second-eq60.branch
 
 returns : tie.Need-returns
 unfolding clock_time

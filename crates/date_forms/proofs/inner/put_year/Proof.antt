@@ -27,11 +27,11 @@ same c = to_z-of_z c.ranges.year
 wide : (c : tie.Start) → to_z w64 (of_z w64 (to_z w32 (of_z w32 c.args.year))) ≡ c.args.year
 wide c = rw (same c) (to_z-of_z (sfits_widen tt c.ranges.year))
 
-below_zero : (c : tie.Then1) → lt_z c.args.year (pos 0) ≡ true
-below_zero c = rw (same c.before) at c.if-year-lt0.true
+below_zero : (c : tie.Then-year-lt0) → lt_z c.args.year (pos 0) ≡ true
+below_zero c = rw (same c.before.before) at c.if-year-lt0.true
 
-from_zero : (c : tie.Else1) → lt_z c.args.year (pos 0) ≡ false
-from_zero c = rw (same c.before) at c.if-year-lt0.false
+from_zero : (c : tie.Else-year-lt0) → lt_z c.args.year (pos 0) ≡ false
+from_zero c = rw (same c.before.before) at c.if-year-lt0.false
 
 put-marked-requires : tie.Need-put_marked-requires
 put-marked-requires c κs =
@@ -47,10 +47,10 @@ returns c =
     let size = size_minus s.args.year _ (rw (wide s) at d.size_of_negative.ensures.0) in
     wrote_as d.put_marked.ensures (sym (minus_year s.args.year (below_zero t) ∙ ap (λ (n : ℕ). hyphen ∷ padded 6 n) size))
 
-above_nines : (c : tie.Then2) → lt_z (pos 9999) c.args.year ≡ true
+above_nines : (c : tie.Then-year-gt-FOUR_DIGITS) → lt_z (pos 9999) c.args.year ≡ true
 above_nines c = rw (same c.before.before.before.before) at c.if-year-gt-FOUR_DIGITS.true
 
-to_nines : (c : tie.Else2) → lt_z (pos 9999) c.args.year ≡ false
+to_nines : (c : tie.Else-year-gt-FOUR_DIGITS) → lt_z (pos 9999) c.args.year ≡ false
 to_nines c = rw (same c.before.before.before.before) at c.if-year-gt-FOUR_DIGITS.false
 
 size_is : (c : tie.After-to_natural-size) → nat_abs c.args.year ≡ c.to_natural-size.result

@@ -44,7 +44,7 @@ returns-2 c =
     (a_digit (byte t) c.if-b.false).0)
 
 -- the byte is a digit, and the value so far is small
-small : (c : tie.Else2 invariant_loop decreases_loop) → (c.loop-i.value < 10 ^ 18) ×
+small : (c : tie.Else-i-eq9 invariant_loop decreases_loop) → (c.loop-i.value < 10 ^ 18) ×
     ((48 ≤ byte c.before.before.before) × (byte c.before.before.before ≤ 57))
 small c =
     let t = c.before.before.before in

@@ -39,7 +39,7 @@ returns-2 c =
     not_there _ _ a.n (no_digit a.text.now a.at _ _ l.loop-i.invariant.1.1 _ (omega arith) (omega arith) (not_digit (byte t) c.if-b.true))
 
 -- the byte is a digit, and the value so far is small
-small : (c : tie.Else2 invariant_loop decreases_loop) → (c.loop-i.value < 10 ^ 18) ×
+small : (c : tie.Else-b invariant_loop decreases_loop) → (c.loop-i.value < 10 ^ 18) ×
     ((48 ≤ byte c.before.before.before) × (byte c.before.before.before ≤ 57))
 small c =
     let l = c.before.before.before.before in

@@ -15,11 +15,11 @@ use Rattle.iso_date.proofs.IsoDate.from_epoch_days.Statement.{statement}
 use Rattle.iso_date.proofs.IsoDate.from_epoch_days.Tie as tie
 
 returns : tie.Need-returns-then-not-is_balanced
-returns c = date_far _ (rw (to_z-of_z c.ranges.day) at (sym c.is_balanced.ensures ∙ not-true _ c.if-not-is_balanced.true))
+returns c = date_far _ (rw (to_z-of_z c.ranges.day) at (sym c.is_balanced.ensures ∙ c.if-not-is_balanced.true))
 
 -- the day is in the range
-near : (c : tie.Else1) → balanced c.args.day ≡ true
-near c = rw (to_z-of_z c.ranges.day) at (sym c.is_balanced.ensures ∙ not-false _ c.if-not-is_balanced.false)
+near : (c : tie.Else-not-is_balanced) → balanced c.args.day ≡ true
+near c = rw (to_z-of_z c.ranges.day) at (sym c.is_balanced.ensures ∙ c.if-not-is_balanced.false)
 
 raise-requires : tie.Need-raise-n-requires
 raise-requires c κs =

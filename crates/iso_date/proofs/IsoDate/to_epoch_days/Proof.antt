@@ -13,11 +13,11 @@ use Rattle.iso_date.proofs.IsoDate.to_epoch_days.Statement.{statement}
 use Rattle.iso_date.proofs.IsoDate.to_epoch_days.Tie as tie
 
 returns : tie.Need-returns-then-not-is_valid
-returns c = day_bad _ (sym c.is_valid.ensures ∙ not-true _ c.if-not-is_valid.true)
+returns c = day_bad _ (sym c.is_valid.ensures ∙ c.if-not-is_valid.true)
 
 -- the fields have passed
-valid : (c : tie.Else1) → is_valid_iso_date c.args.self ≡ true
-valid c = sym c.is_valid.ensures ∙ not-false _ c.if-not-is_valid.false
+valid : (c : tie.Else-not-is_valid) → is_valid_iso_date c.args.self ≡ true
+valid c = sym c.is_valid.ensures ∙ c.if-not-is_valid.false
 
 -- and the test of the range is that of the day number
 tested : (c : tie.After-is_balanced) → balanced (epoch_days c.args.self) ≡ c.is_balanced.result
@@ -26,13 +26,13 @@ tested c =
     sym (rw (to_z-of_z {w = w64} {z = d.result} (record { sfits = d.type_inv }), d.ensures.0) at c.is_balanced.ensures)
 
 returns-2 : tie.Need-returns-then-not-is_balanced
-returns-2 c = day_far _ (valid c.before.before.before) (tested c.before ∙ not-true _ c.if-not-is_balanced.true)
+returns-2 c = day_far _ (valid c.before.before.before) (tested c.before ∙ c.if-not-is_balanced.true)
 
 returns-3 : tie.Need-returns
 returns-3 c =
     let d = c.epoch_days-day in
     ap given (to_z-of_z {w = w64} {z = d.result} (record { sfits = d.type_inv }) ∙ d.ensures.0) ∙
-    day_given _ (valid c.before.before.before) (tested c.before ∙ not-false _ c.if-not-is_balanced.false)
+    day_given _ (valid c.before.before.before) (tested c.before ∙ c.if-not-is_balanced.false)
 
 pub to_epoch_days_spec : {M : Type 1} → statement M
 to_epoch_days_spec =

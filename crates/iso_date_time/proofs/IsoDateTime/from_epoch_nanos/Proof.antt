@@ -11,7 +11,7 @@ returns : tie.Need-returns-then-not-is_instant
 returns c =
     let s = c.before.before in
     let e = rw (to_z-of_z s.ranges.day, to_z-of_z s.ranges.nanosecond) at c.is_instant.ensures in
-    no_instant _ _ _ (sym e ∙ not-true _ c.if-not-is_instant.true)
+    no_instant _ _ _ (sym e ∙ c.if-not-is_instant.true)
 
 returns-2 : tie.Need-returns-then-not-is_offset
 returns-2 c =
@@ -19,12 +19,12 @@ returns-2 c =
     let s = i.before.before in
     let e = rw (to_z-of_z s.ranges.day, to_z-of_z s.ranges.nanosecond) at i.is_instant.ensures in
     let f = rw (to_z-of_z s.ranges.offset) at c.is_offset.ensures in
-    no_offset _ _ _ (sym e ∙ not-false _ i.if-not-is_instant.false) (sym f ∙ not-true _ c.if-not-is_offset.true)
+    no_offset _ _ _ (sym e ∙ i.if-not-is_instant.false) (sym f ∙ c.if-not-is_offset.true)
 
 from-instant-requires : tie.Need-from_instant-requires
 from-instant-requires c κs =
     let i = c.before.before in
-    (sym i.is_instant.ensures ∙ not-false _ i.if-not-is_instant.false, sym c.is_offset.ensures ∙ not-false _ c.if-not-is_offset.false)
+    (sym i.is_instant.ensures ∙ i.if-not-is_instant.false, sym c.is_offset.ensures ∙ c.if-not-is_offset.false)
 
 returns-3 : tie.Need-returns
 returns-3 c =
@@ -34,7 +34,7 @@ returns-3 c =
     let e = rw (to_z-of_z s.ranges.day, to_z-of_z s.ranges.nanosecond) at i.is_instant.ensures in
     let f = rw (to_z-of_z s.ranges.offset) at o.is_offset.ensures in
     let g = rw (to_z-of_z s.ranges.day, to_z-of_z s.ranges.nanosecond, to_z-of_z s.ranges.offset) at c.from_instant.ensures in
-    instant_given _ _ _ _ (sym e ∙ not-false _ i.if-not-is_instant.false) (sym f ∙ not-false _ o.if-not-is_offset.false) g
+    instant_given _ _ _ _ (sym e ∙ i.if-not-is_instant.false) (sym f ∙ o.if-not-is_offset.false) g
 
 pub from_epoch_nanos_spec : {M : Type 1} → statement M
 from_epoch_nanos_spec =

@@ -18,17 +18,17 @@ bounded_is c =
 
 returns : tie.Need-returns-then-not-are_bounded
 unfolding balance_time_fields
-returns c = rw (sym (bounded_is c.before) ∙ not-true _ c.if-not-are_bounded.true)
+returns c = rw (sym (bounded_is c.before) ∙ c.if-not-are_bounded.true)
 
 balance-requires : tie.Need-balance-requires
-balance-requires c κs = all_within _ _ _ _ _ _ (sym c.are_bounded.ensures ∙ not-false _ c.if-not-are_bounded.false)
+balance-requires c κs = all_within _ _ _ _ _ _ (sym c.are_bounded.ensures ∙ c.if-not-are_bounded.false)
 
 returns-2 : tie.Need-returns
 unfolding balance_time_fields
 returns-2 c =
     let b = c.before.before in
     let f = b.ranges in
-    rw (c.balance.ensures, sym (bounded_is b) ∙ not-false _ c.if-not-are_bounded.false)
+    rw (c.balance.ensures, sym (bounded_is b) ∙ c.if-not-are_bounded.false)
     (rw (to_z-of_z f.hour, to_z-of_z f.minute, to_z-of_z f.second, to_z-of_z f.millisecond, to_z-of_z f.microsecond, to_z-of_z f.nanosecond))
 
 pub balance_spec : {M : Type 1} → statement M

@@ -10,17 +10,17 @@ use Rattle.iso_time.proofs.IsoTime.diff.Tie as tie
 
 returns : tie.Need-returns-then-not-is_valid
 unfolding time_difference
-returns c = rw (sym c.is_valid.ensures ∙ not-true _ c.if-not-is_valid.true)
+returns c = rw (sym c.is_valid.ensures ∙ c.if-not-is_valid.true)
 
-valid : (c : tie.Else1) → is_valid_time c.args.self ≡ true
-valid c = sym c.is_valid.ensures ∙ not-false _ c.if-not-is_valid.false
+valid : (c : tie.Else-not-is_valid) → is_valid_time c.args.self ≡ true
+valid c = sym c.is_valid.ensures ∙ c.if-not-is_valid.false
 
 returns-2 : tie.Need-returns-then-not-is_valid-2
 unfolding time_difference
-returns-2 c = rw (valid c.before.before, sym c.is_valid-2.ensures ∙ not-true _ c.if-not-is_valid-2.true)
+returns-2 c = rw (valid c.before.before, sym c.is_valid-2.ensures ∙ c.if-not-is_valid-2.true)
 
-valid_other : (c : tie.Else2) → is_valid_time c.args.other ≡ true
-valid_other c = sym c.is_valid-2.ensures ∙ not-false _ c.if-not-is_valid-2.false
+valid_other : (c : tie.Else-not-is_valid-2) → is_valid_time c.args.other ≡ true
+valid_other c = sym c.is_valid-2.ensures ∙ c.if-not-is_valid-2.false
 
 returns-3 : tie.Need-returns
 unfolding time_difference difference_time

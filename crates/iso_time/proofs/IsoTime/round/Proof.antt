@@ -11,28 +11,28 @@ use Rattle.iso_time.proofs.IsoTime.round.Tie as tie
 
 returns : tie.Need-returns-then-not-is_valid
 unfolding rounded_time
-returns c = rw (sym c.is_valid.ensures ∙ not-true _ c.if-not-is_valid.true)
+returns c = rw (sym c.is_valid.ensures ∙ c.if-not-is_valid.true)
 
-valid : (c : tie.Else1) → is_valid_time c.args.self ≡ true
-valid c = sym c.is_valid.ensures ∙ not-false _ c.if-not-is_valid.false
+valid : (c : tie.Else-not-is_valid) → is_valid_time c.args.self ≡ true
+valid c = sym c.is_valid.ensures ∙ c.if-not-is_valid.false
 
 returns-2 : tie.Need-returns-then-length_of-eq0
 unfolding rounded_time
 returns-2 c = rw (valid c.before.before, no_unit _ _ c.length_of.ensures c.if-length_of-eq0.true)
 
-usable : (c : tie.Else2) → is_rounding_unit c.args.unit ≡ true
+usable : (c : tie.Else-length_of-eq0) → is_rounding_unit c.args.unit ≡ true
 usable c = some_unit _ _ c.length_of.ensures c.if-length_of-eq0.false
 
 returns-3 : tie.Need-returns-then-not-is_increment
 unfolding rounded_time
 returns-3 c =
     let k = c.before.before in
-    rw (valid k.before.before, usable k, sym c.is_increment.ensures ∙ not-true _ c.if-not-is_increment.true)
+    rw (valid k.before.before, usable k, sym c.is_increment.ensures ∙ c.if-not-is_increment.true)
 
-allowed : (c : tie.Else3) →
+allowed : (c : tie.Else-not-is_increment) →
     let a = c.args in
     valid_increment a.unit a.increment ≡ true
-allowed c = sym c.is_increment.ensures ∙ not-false _ c.if-not-is_increment.false
+allowed c = sym c.is_increment.ensures ∙ c.if-not-is_increment.false
 
 round-requires : tie.Need-round-requires
 round-requires c κs =

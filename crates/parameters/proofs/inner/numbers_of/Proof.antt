@@ -70,7 +70,7 @@ returns-2 c =
     (no_number (letters l) (line l) (from l) l.loop.cells l.loop.k l.loop.at w.word_end-end.result i.number_of-x.result
     w.loop-k-test.true (omega (arith, starts w))
     (rest_there (line l) _ _ (starts w) w.word_end-end.ensures) (found i.before) l.loop.inv.1.1.1
-    (sym i.is_number.ensures ∙ not-true _ c.if-not-is_number.true))
+    (sym i.is_number.ensures ∙ c.if-not-is_number.true))
 
 small : (l : tie.At-loop-k invariant_loop decreases_loop) → l.loop-k.k < length (letters l) → l.loop-k.k < 24
 small l h = omega (arith, l.requires.1)
@@ -94,7 +94,7 @@ loop-again c =
               (one_more (letters l) (line l) (from l) l.loop.cells l.loop.k l.loop.at w.word_end-end.result i.number_of-x.result
               more (omega (arith, starts w))
               (rest_there (line l) _ _ (starts w) w.word_end-end.ensures) (found i.before) l.loop.inv.1.1.1
-              (sym i.is_number.ensures ∙ not-false _ c.if-not-is_number.false) room),
+              (sym i.is_number.ensures ∙ c.if-not-is_number.false) room),
         ),
       ),
     )

@@ -64,7 +64,7 @@ returns-3 c =
       p.answer_text.ensures.1,
     )
 
-known : (c : tie.Else3) → c.place_of-place.result < length calls
+known : (c : tie.Else-place-eq-CALLS) → c.place_of-place.result < length calls
 known c = omega (arith, named c.before, place_most calls (word (line c.before.before.before)), c.if-place-eq-CALLS.false)
 
 numbers-at-requires : tie.Need-numbers_at-n-requires
@@ -83,7 +83,7 @@ returns-4 c =
     let w = n.before.before.before.before in (
       wrote_as p.put_byte-then-not-n.ensures
           (no_reply (line w) w.if-line-eq0.false w.if-line-gt-LONGEST.false _ (named n.before.before) (known n.before) _ (read n)
-          (not-true _ p.if-not-n.true)),
+          (p.if-not-n.true)),
       omega (arith, p.put_byte-then-not-n.ensures.ends),
     )
 
@@ -93,7 +93,7 @@ answer-requires c κs =
     let w = n.before.before.before.before in (
       known n.before,
       record {
-        numbers = holds_all _ _ _ (read n) (not-false _ c.if-not-n.false);
+        numbers = holds_all _ _ _ (read n) (c.if-not-n.false);
         room =
             omega (arith, w.requires.1);
       },
@@ -106,7 +106,7 @@ returns-5 c =
     let w = n.before.before.before.before in (
       wrote_as p.answer.ensures.wrote
           (good_reply (line w) w.if-line-eq0.false w.if-line-gt-LONGEST.false _ (named n.before.before) (known n.before) _ (read n)
-          (not-false _ p.if-not-n.false)),
+          (p.if-not-n.false)),
       p.answer.ensures.short,
     )
 

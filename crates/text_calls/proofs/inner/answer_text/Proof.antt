@@ -19,20 +19,20 @@ use Rattle.text_calls.proofs.inner.answer_text.Tie as tie
 abbrev line : tie.Start → List ℕ
 line s = s.args.line.now
 
-abbrev start_of : tie.Else1 → tie.Start
-start_of c = c.before
+abbrev start_of : tie.Else-end-line → tie.Start
+start_of c = c.before.before.before
 
-inside : (c : tie.Else1) → (start_of c).args.end < length (line (start_of c))
+inside : (c : tie.Else-end-line) → (start_of c).args.end < length (line (start_of c))
 inside c = omega (arith, (start_of c).requires.0, word_inside (line (start_of c)), c.if-end-line.false)
 
-after_name : (c : tie.Else1) → (start_of c).args.end + 1 ≤ length (line (start_of c))
+after_name : (c : tie.Else-end-line) → (start_of c).args.end + 1 ≤ length (line (start_of c))
 after_name c = omega (arith, inside c)
 
 -- the part of the line that is compared, and the one that is handed on
-front : (c : tie.Else1) → (start_of c).args.end ≡ length (take (start_of c).args.end (line (start_of c)))
+front : (c : tie.Else-end-line) → (start_of c).args.end ≡ length (take (start_of c).args.end (line (start_of c)))
 front c = let h : (start_of c).args.end ≤ length (line (start_of c)) = omega (arith, inside c) in sym (length-take-le _ _ h)
 
-text : (c : tie.Else1) →
+text : (c : tie.Else-end-line) →
     take (length (line (start_of c)) - ((start_of c).args.end + 1)) (drop ((start_of c).args.end + 1) (line (start_of c))) ≡
     drop ((start_of c).args.end + 1) (line (start_of c))
 text c =
@@ -40,7 +40,7 @@ text c =
     let h : length (drop (s.args.end + 1) (line s)) ≤ length (line s) - (s.args.end + 1) = omega (arith, length-drop (s.args.end + 1) (line s)) in
     take_all _ _ h
 
-abbrev first : tie.After-same → tie.Else1
+abbrev first : tie.After-same → tie.Else-end-line
 first c = c.before.before.before
 
 abbrev second : tie.After-same-2 → tie.After-same
@@ -56,13 +56,13 @@ returns c =
     (wrote_as p.put_byte.ensures (no_text (line s) s.args.end s.requires.0 p.if-end-line.true), omega (arith, p.put_byte.ensures.ends))
 
 -- the name is not that of the first call, of the first two, of all three
-not_first : (c : tie.Else2) → reply_by_text (drop 1 text_calls) (line (start_of (first c.before))) ≡ reply_by_text text_calls (line (start_of (first c.before)))
+not_first : (c : tie.Else-same) → reply_by_text (drop 1 text_calls) (line (start_of (first c.before))) ≡ reply_by_text text_calls (line (start_of (first c.before)))
 not_first c =
     let s = start_of (first c.before) in
     text_later (line s) s.args.end s.pre.0 (inside (first c.before)) _ _
     (λ e. clash c.same.result (c.same.ensures.1 e) c.if-same.false)
 
-not_second : (c : tie.Else3) →
+not_second : (c : tie.Else-same-2) →
     reply_by_text (drop 2 text_calls) (line (start_of (first (second c.before)))) ≡ reply_by_text text_calls (line (start_of (first (second c.before))))
 not_second c =
     let f = first (second c.before) in
@@ -70,7 +70,7 @@ not_second c =
     text_later (line s) s.args.end s.pre.0 (inside f) _ _ (λ e. clash c.same-2.result (c.same-2.ensures.1 e) c.if-same-2.false) ∙
     not_first c.before.before.before.before
 
-not_third : (c : tie.Else4) →
+not_third : (c : tie.Else-same-3) →
     reply_by_text (drop 3 text_calls) (line (start_of (first (second (third c.before))))) ≡
     reply_by_text text_calls (line (start_of (first (second (third c.before)))))
 not_third c =
