@@ -1,4 +1,5 @@
 -- The balance of the naturals, given back.
+use mir.Syntax.{w32}
 use borrow.Author.Rules.{rules}
 use mathlib.Core.Path.{sym, ◌∙◌}
 use mir.Facts.{to_z-of_z}
@@ -12,7 +13,7 @@ returns c =
     let s = a.before.before.before in
     year_month_is _ _ _ _ _ _ _ (sym (to_z-of_z s.ranges.year) ∙ a.year_up.ensures.0)
     (sym (to_z-of_z s.ranges.month) ∙ a.month_up.ensures.0)
-    a.balance_up-b.ensures (to_z-of_z (record { sfits = c.year_down.type_inv }) ∙ c.year_down.ensures)
+    a.balance_up-b.ensures (to_z-of_z {w = w32} (record { sfits = c.year_down.type_inv }) ∙ c.year_down.ensures)
 
 pub balance_iso_year_month_spec : {M : Type 1} → statement M
 balance_iso_year_month_spec =

@@ -1,4 +1,5 @@
 -- A size above zero is the number itself.
+use mir.Syntax.{w64}
 use borrow.Author.Rules.{rules}
 use native.Mathlib.Omega.{arith}
 use mathlib.Core.Path.{sym, ◌∙◌, ap}
@@ -17,7 +18,7 @@ from-natural-requires c κs = omega (
 )
 
 returns : tie.Need-returns-in-Is
-returns c = ap given (to_z-of_z (record { sfits = c.from_natural.type_inv }) ∙ c.from_natural.ensures) ∙ ap positive_size (sym c.in-Is.is)
+returns c = ap given (to_z-of_z {w = w64} (record { sfits = c.from_natural.type_inv }) ∙ c.from_natural.ensures) ∙ ap positive_size (sym c.in-Is.is)
 
 pub positive_spec : {M : Type 1} → statement M
 positive_spec = tie.close (tie.spec (λ c. search rules) from-natural-requires (λ c. search rules) returns (λ c. search rules))

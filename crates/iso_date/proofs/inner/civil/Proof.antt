@@ -1,4 +1,5 @@
 -- The year that holds the day, the month that holds what is left, and the day that is left then: the date of the definition.
+use mir.Syntax.{w32}
 use borrow.Author.Rules.{rules}
 use native.Mathlib.Omega.{arith}
 use mathlib.Core.Path.{◌∙◌}
@@ -25,7 +26,7 @@ cast-t12 c =
 returns : tie.Need-returns
 returns c =
     let b = c.before.before.before in
-    let y = to_z-of_z (record { sfits = c.lower32.type_inv }) ∙ c.lower32.ensures in
+    let y = to_z-of_z {w = w32} (record { sfits = c.lower32.type_inv }) ∙ c.lower32.ensures in
     rw (c.days_before.ensures.0, b.year_start.ensures.0, b.is_leap-leap.ensures)
     (civil_is _ _ _ _ b.year_of-u.ensures y (rw (
       b.year_start.ensures.0,

@@ -1,4 +1,5 @@
 -- The three ways of a clamp.
+use mir.Syntax.{w32}
 use borrow.Author.Rules.{rules}
 use native.Mathlib.Omega.{arith}
 use mathlib.Core.Path.{◌∙◌}
@@ -20,7 +21,7 @@ returns-2 c =
 returns-3 : tie.Need-returns
 returns-3 c =
     let d = read_diff c.args.u year_bias in
-    to_z-of_z (record { sfits = c.lower32.type_inv }) ∙ c.lower32.ensures ∙ clamp_same _ _ _ (omega (arith, ints)) (omega (arith, ints))
+    to_z-of_z {w = w32} (record { sfits = c.lower32.type_inv }) ∙ c.lower32.ensures ∙ clamp_same _ _ _ (omega (arith, ints)) (omega (arith, ints))
 
 pub year_down_spec : {M : Type 1} → statement M
 year_down_spec = tie.close (tie.spec (λ c. search rules) returns (λ c. search rules) returns-2 (λ c κs. search rules) returns-3)

@@ -1,4 +1,5 @@
 -- A day is 86,400 whole seconds, so only the nanoseconds are divided, and both parts get the direction.
+use mir.Syntax.{w64}
 use borrow.Author.Rules.{rules}
 use mathlib.Core.Path.{◌∙◌}
 use mir.Facts.{to_z-of_z}
@@ -12,8 +13,8 @@ returns c =
     let s = c.args in
     let d = directed_is s.forward in
     in_seconds_is s.forward s.days s.nanoseconds _ _
-    (to_z-of_z (record { sfits = c.directed.type_inv }) ∙ c.directed.ensures ∙ d _)
-    (to_z-of_z (record { sfits = c.directed-2.type_inv }) ∙ c.directed-2.ensures ∙ d _)
+    (to_z-of_z {w = w64} (record { sfits = c.directed.type_inv }) ∙ c.directed.ensures ∙ d _)
+    (to_z-of_z {w = w64} (record { sfits = c.directed-2.type_inv }) ∙ c.directed-2.ensures ∙ d _)
 
 pub in_seconds_spec : {M : Type 1} → statement M
 in_seconds_spec =

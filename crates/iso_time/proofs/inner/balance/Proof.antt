@@ -1,4 +1,5 @@
 -- Each field is raised by a multiple of its divisor, so quotient and remainder are the floor's.
+use mir.Syntax.{w64}
 use borrow.Author.Rules.{rules}
 use mathlib.Core.Path.{sym, ◌∙◌}
 use mir.Facts.{to_z-of_z}
@@ -17,7 +18,7 @@ returns c =
     (sym (to_z-of_z f.second) ∙ c.field_up-3.ensures.0)
     (sym (to_z-of_z f.minute) ∙ c.field_up-4.ensures.0)
     (sym (to_z-of_z f.hour) ∙ c.field_up-5.ensures.0)
-    _ (to_z-of_z (record { sfits = c.lower.type_inv }) ∙ c.lower.ensures)
+    _ (to_z-of_z {w = w64} (record { sfits = c.lower.type_inv }) ∙ c.lower.ensures)
 
 pub balance_spec : {M : Type 1} → statement M
 balance_spec =
