@@ -27,7 +27,7 @@ same_parts a b c d a' b' c' d' p q r s = rw (p, q, r, s)
 
 -- what a function makes of a part, handed over and back
 pub part_is : (f : ℤ → ℤ) {x r : ℤ} → mag x < 2 ^ 63 → mag r < 2 ^ 63 → r ≡ f (to_z w64 (of_z w64 x)) → to_z w64 (of_z w64 r) ≡ f x
-part_is f h k e = to_z-of_z (record { sfits = k }) ∙ e ∙ ap f (to_z-of_z (record { sfits = h }))
+part_is f h k e = to_z-of_z {w = w64} (record { sfits = k }) ∙ e ∙ ap f (to_z-of_z {w = w64} (record { sfits = h }))
 
 -- ---- bounds
 
@@ -81,8 +81,8 @@ module _ (d : DateDuration) (y : mag d.years < 2 ^ 63) (m : mag d.months < 2 ^ 6
     (n : mag d.days < 2 ^ 63) where
   pub handed : duration (to_z w64 (of_z w64 d.years)) (to_z w64 (of_z w64 d.months)) (to_z w64 (of_z w64 d.weeks)) (to_z w64 (of_z w64 d.days)) ≡ d
   handed =
-      same_parts _ _ _ _ _ _ _ _ (to_z-of_z (record { sfits = y })) (to_z-of_z (record { sfits = m })) (to_z-of_z (record { sfits = w }))
-      (to_z-of_z (record { sfits = n }))
+      same_parts _ _ _ _ _ _ _ _ (to_z-of_z {w = w64} (record { sfits = y })) (to_z-of_z {w = w64} (record { sfits = m })) (to_z-of_z {w = w64} (record { sfits = w }))
+      (to_z-of_z {w = w64} (record { sfits = n }))
 
   pub turnable : is_valid_duration d ≡ true → AllTurnable d
   turnable e =
@@ -105,7 +105,7 @@ module _ {z : ℤ} (p : Turnable z) where
   turn_is = to_z-of_z turn_fits ∙ rw (to_z-of_z p.fits) (+ℤ_idl (neg_ℤ z))
 
   pub size_is : {r : ℤ} → mag r < 2 ^ 63 → r ≡ pos (nat_abs (to_z w64 (of_z w64 z))) → to_z w64 (of_z w64 r) ≡ pos (nat_abs z)
-  size_is h e = to_z-of_z (record { sfits = h }) ∙ rw (to_z-of_z p.fits) at e
+  size_is h e = to_z-of_z {w = w64} (record { sfits = h }) ∙ rw (to_z-of_z p.fits) at e
 
 -- ---- the tests, one after another
 

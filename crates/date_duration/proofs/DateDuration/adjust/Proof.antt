@@ -1,4 +1,5 @@
 -- The duration is checked first, then what comes out of it.
+use mir.Syntax.{w64}
 use borrow.Author.Rules.{rules}
 use mathlib.Core.Path.{sym, ◌∙◌}
 use borrow.Author.Tests.{not-true, not-false}
@@ -22,7 +23,7 @@ returns-2 c =
     let a = s.args in
     let g = c.struct_told-3-1.given in
     c.new.ensures ∙
-    adjust_is a.self _ _ _ _ _ _ _ (sym v.is_valid.ensures ∙ v.if-not-is_valid.false) (to_z-of_z (record { sfits = g.0.1 }))
+    adjust_is a.self _ _ _ _ _ _ _ (sym v.is_valid.ensures ∙ v.if-not-is_valid.false) (to_z-of_z {w = w64} (record { sfits = g.0.1 }))
     (part_is (kept_or a.months) g.1.0.1 k1.kept_or.type_inv k1.kept_or.ensures)
     (part_is (kept_or a.weeks) g.1.1.0.1 k2.kept_or-2.type_inv k2.kept_or-2.ensures) (to_z-of_z s.ranges.days)
 

@@ -8,11 +8,11 @@ use Rattle.rounding.proofs.inner.get_unsigned_round_mode.Tie as tie
 mul-result : tie.Need-offset_bounds-i
 mul-result c = omega (arith, c.row-i.ensures, row_small c.args.mode)
 
-index-1-result : tie.Need-bounds-1-result
-index-1-result c = omega (arith, c.before.row.ensures, row_small c.before.before.args.mode)
+index-1-result : tie.Need-bounds-i
+index-1-result c = omega (arith, c.row-i.ensures, row_small c.args.mode)
 
-index-2-result : tie.Need-bounds-2-result
-index-2-result c = omega (arith, c.column.ensures, column_small c.before.before.args.negative)
+index-2-result : tie.Need-bounds-j
+index-2-result c = omega (arith, c.column-j.ensures, column_small c.args.negative)
 
 returns : tie.Need-returns
 returns c =
