@@ -76,7 +76,7 @@ returns c =
     let m = b.before in
     let s = m.args in
     let e = moved_is s.date.year s.years s.months _ s.date.month s.date.day _ _ _ _ (year_is m.before.before) (month_is m)
-    b.balance_up-b.ensures (to_z-of_z (record { sfits = n.year_down.type_inv }) ∙ n.year_down.ensures) in
+    b.balance_up-b.ensures (to_z-of_z {w = w32} (record { sfits = n.year_down.type_inv }) ∙ n.year_down.ensures) in
     c.regulate.ensures ∙ ap (λ (t : IsoDate). regulate_date t s.overflow) e
 
 pub moved_spec : {M : Type 1} → statement M
