@@ -43,6 +43,17 @@ class Names:
                 self.depth[i] = depth
                 for field, step, path in fields:
                     self.arms.setdefault(plain(step), {})[tuple(path)] = f"{name}.{field}"
+        # an arm is one place today: its last one has all that its pattern binds
+        self.last = {}
+        arm_name = {i: names["arms"][i][0] for i in range(len(self.places)) if names["arms"][i]}
+        for i in self.depth:
+            j = i
+            while True:
+                below = [k for k in self.depth if self.parent[k] == j and arm_name[k] == arm_name[i]]
+                if not below:
+                    break
+                j = below[0]
+            self.last[i] = j
         self.want = len(names["needs"]) + 2 * len(names["loops"])
 
     def up(self, place, k):
@@ -55,6 +66,7 @@ class Names:
 
     def steps_up(self, of, to):
         """How many `.before` lead from one place to another today."""
+        of, to = self.last.get(of, of), self.last.get(to, to)
         n = 0
         while of is not None and of != to:
             of = self.up_today(of)
@@ -118,10 +130,7 @@ class Turner:
             var, of, befores = m.groups()
             if of in self.vars and self.vars[of] is not None:
                 at = self.n.up(self.vars[of], befores.count("before"))
-                up = self.n.steps_up(self.vars[of], at)
-                if up is None:
-                    # an inner place of an arm: what it knows stands in the arm's own place
-                    up = 0
+                up = self.n.steps_up(self.vars[of], at) or 0
                 out.append(f"let {var} = {of}{'.before' * up} in")
                 self.vars[var] = at
             else:
@@ -189,7 +198,7 @@ class Turner:
 
         def place(m):
             i = self.n.index.get(plain(m.group(1)))
-            return m.group(0) if i is None else "tie." + self.n.new_place[i]
+            return m.group(0) if i is None else "tie." + self.n.new_place[self.n.last.get(i, i)]
 
         text = re.sub(r"tie\.Need-(" + TOKEN + ")", need, text)
         text = re.sub(PLACE, place, text)

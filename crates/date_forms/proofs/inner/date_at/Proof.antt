@@ -66,7 +66,7 @@ unfolding date_form
 returns-4 c =
     let m = day_place c in
     let y = month_place m in
-    let e : to_z w32 (of_z w32 y.before.year.given.0.0) ≡ y.before.year.given.0.0 = search rules in
+    let e : to_z w32 (of_z w32 y.in-Is.year) ≡ y.in-Is.year = search rules in
     record { reads = rw ((year_took y).0, (month_took m).0, (day_took c).0, e); inside = (day_took c).1.1 }
 
 pub date_at_spec : {M : Type 1} → statement M

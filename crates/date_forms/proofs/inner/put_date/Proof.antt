@@ -17,7 +17,7 @@ same c = search rules
 
 year_wrote : (c : tie.After-put_year-after_year) →
     Wrote c.args.out.now c.args.at
-    (year_text c.args.date.year) c.put_year-after_year.new.0 c.put_year-after_year.result
+    (year_text c.args.date.year) c.put_year-after_year.new.out c.put_year-after_year.result
 year_wrote c = rw (same c.before) at c.put_year-after_year.ensures
 
 put-year-requires : tie.Need-put_year-after_year-requires

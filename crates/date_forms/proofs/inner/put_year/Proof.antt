@@ -25,7 +25,7 @@ same : (c : tie.Start) → to_z w32 (of_z w32 c.args.year) ≡ c.args.year
 same c = to_z-of_z c.ranges.year
 
 wide : (c : tie.Start) → to_z w64 (of_z w64 (to_z w32 (of_z w32 c.args.year))) ≡ c.args.year
-wide c = rw (same c) (to_z-of_z (sfits_widen tt c.ranges.year))
+wide c = rw (same c) (to_z-of_z {w = w64} (sfits_widen {w = w32} tt c.ranges.year))
 
 below_zero : (c : tie.Then-year-lt0) → lt_z c.args.year (pos 0) ≡ true
 below_zero c = rw (same c.before.before) at c.if-year-lt0.true

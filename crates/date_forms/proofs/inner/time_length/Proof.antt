@@ -8,5 +8,5 @@ use Rattle.date_forms.proofs.inner.time_length.Tie as tie
 pub time_length_spec : {M : Type 1} → statement M
 time_length_spec =
     tie.close
-    (tie.spec (λ c. (none_length c.before.args.fraction c.if1.true, omega arith)) (λ c. search rules)
-    (λ c. (some_length c.before.args.fraction c.if1.false, omega arith)))
+    (tie.spec (λ c. (none_length c.args.fraction c.if-count-eq0.true, omega arith)) (λ c. search rules)
+    (λ c. (some_length c.args.fraction c.if-count-eq0.false, omega arith)))

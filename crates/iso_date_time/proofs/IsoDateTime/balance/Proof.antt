@@ -22,7 +22,7 @@ time_is c =
     let most = rw (to_z-of_z f.hour, to_z-of_z f.minute, to_z-of_z f.second, to_z-of_z f.millisecond) at c.balance-balanced.ensures in
     rw (to_z-of_z f.microsecond, to_z-of_z f.nanosecond) at most
 
-carry_is : (c : tie.In-Balanced-2) → let s = c.args in
+carry_is : (c : tie.In-Balanced) → let s = c.args in
     given c.in-Balanced.b ≡ balance_time_fields s.hour s.minute s.second s.millisecond s.microsecond s.nanosecond
 carry_is c = sym (ap of_balance c.in-Balanced.is) ∙ time_is c.before
 
@@ -33,7 +33,7 @@ balance-sum-requires : tie.Need-balance_sum-requires
 balance-sum-requires c κs =
     let b = c.in-Balanced.b in
     let days : to_z w64 (of_z w64 b.days) ≡ b.days = search rules in
-    rw days (carry_small _ _ _ _ _ _ _ (carry_is c.before.before))
+    rw days (carry_small _ _ _ _ _ _ _ (carry_is c.before))
 
 -- the date of the exact count
 date_is : (c : tie.After-balance_sum) → let s = c.args in
@@ -47,17 +47,17 @@ date_is c =
 returns-2 : tie.Need-returns-in_default-balance_sum
 returns-2 c =
     let d = c.before in
-    balance_count _ _ _ _ _ _ _ _ _ _ _ (carry_is d.before.before.before) (sym (ap of_date c.in_default-balance_sum.is) ∙ date_is d)
+    balance_count _ _ _ _ _ _ _ _ _ _ _ (carry_is d.before.before) (sym (ap of_date c.in_default-balance_sum.is) ∙ date_is d)
 
-given_is : (c : tie.After-time-1) → let d = c in
-    let b = d in
+given_is : (c : tie.After-time-1) → let d = c.before in
+    let b = d.before.before.before in
     let s = b.args in
     given (date_time d.in-Date.date b.in-Balanced.b.time) ≡
     balance_date_time s.year s.month s.day s.hour s.minute s.second s.millisecond s.microsecond s.nanosecond
 given_is c =
-    let d = c in
+    let d = c.before in
     let b = d.before in
-    balance_is _ _ _ _ _ _ _ _ _ _ _ (carry_is b.before.before.before) (sym (ap of_date d.in-Date.is) ∙ date_is b)
+    balance_is _ _ _ _ _ _ _ _ _ _ _ (carry_is b.before.before) (sym (ap of_date d.in-Date.is) ∙ date_is b)
 
 returns-3 : tie.Need-returns
 returns-3 c = given_is c

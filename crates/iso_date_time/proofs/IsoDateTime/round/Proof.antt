@@ -19,7 +19,7 @@ record_passed : (c : tie.In_default) → given tt ≡ date_time_limits c.args.se
 record_passed c = sym (ap of_limit c.in_default.is) ∙ c.check_within_limits.ensures
 
 -- what rounding the time gave
-time_rounded : (c : tie.In-Balanced-2) → let s = c.args in
+time_rounded : (c : tie.In-Balanced) → let s = c.args in
     given c.in-Balanced.b ≡ rounded_time s.self.time s.unit s.increment s.mode
 time_rounded c = sym (ap of_balance c.in-Balanced.is) ∙ c.round.ensures
 
@@ -31,30 +31,30 @@ returns c = let a = c in round_record _ _ _ _ _ (sym (ap of_limit a.in-Refused.i
 
 add-days-requires : tie.Need-add_days-requires
 add-days-requires c κs =
-    let b = c in
+    let b = c.before in
     let e = b.before.before.before.before in
     ((limits_fine _ (record_passed e)).date_valid, (omega arith, rw (days_back c) (few_days _ (rounded _ _ _ _ _ (time_rounded b)))))
 
 -- the day that the sum leads to, where it is one
-sum_is : (c : tie.After-add_days) → let b = c in
+sum_is : (c : tie.After-add_days) → let b = c.before.before in
     of_date c.add_days.result ≡ day_to_date (epoch_days b.args.self.date +ℤ b.in-Balanced.b.days)
 sum_is c =
-    let b = c in
+    let b = c.before.before in
     let r = b.args.self in
     (rw (days_back c.before) at c.add_days.ensures) ∙ ap day_to_date (days_alone (epoch_days r.date) b.in-Balanced.b.days)
 
 returns-2 : tie.Need-returns-in_default-add_days
 returns-2 c =
     let a = c.before in
-    let b = a in
+    let b = a.before.before in
     let e = b.before.before.before.before in
     absurd (count_never_refused _ _ _ _ _ (record_passed e) (time_rounded b) _ (sym (ap of_date c.in_default-add_days.is) ∙ sum_is a))
 
 limited-requires : tie.Need-limited-requires
 limited-requires c κs =
-    let d = c in
+    let d = c.before in
     let a = d.before in
-    let b = a in
+    let b = a.before.before in
     (day_valid _ _ (sym (ap of_date d.in-Date.is) ∙ sum_is a), (rounded _ _ _ _ _ (time_rounded b)).valid)
 
 returns-3 : tie.Need-returns-in-Refused-round
@@ -65,9 +65,9 @@ returns-3 c =
 
 returns-4 : tie.Need-returns-in-Date
 returns-4 c =
-    let d = c in
+    let d = c.before.before in
     let a = d.before in
-    let b = a in
+    let b = a.before.before in
     let e = b.before.before.before.before in
     c.limited.ensures ∙
     round_limits _ _ _ _ _ (record_passed e) (time_rounded b) _ (sym (ap of_date d.in-Date.is) ∙ sum_is a)
