@@ -98,7 +98,7 @@ time_at_spec =
     tie.close
     (tie.spec (λ c κs. search rules) (λ c. search rules) (λ c. search rules) returns (λ c κs. ((hour_took c).1.1, omega arith)) (λ c. search rules)
     (λ c. search rules) returns-2 (λ c κs. ((minute_took c).1.1, omega arith)) (λ c. search rules) (λ c. search rules)
-    (λ c κs. numbers_small c.before 0 0 (omega arith) (omega arith)) returns-3
+    (λ c κs. numbers_small c.before.before 0 0 (omega arith) (omega arith)) returns-3
     (λ c κs. (second_took c).1.1) (λ c. search rules) (λ c. search rules)
-    (λ c κs. let s = c.before in numbers_small (second_place s) _ 0 (second_took s).1.0 (omega arith)) returns-4
+    (λ c κs. let s = c.before.before in numbers_small (second_place s) _ 0 (second_took s).1.0 (omega arith)) returns-4
     (λ c κs. let s = c.before.before in numbers_small (second_place s) _ _ (second_took s).1.0 (fraction_took c).1.0) returns-5)
