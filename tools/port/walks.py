@@ -54,6 +54,7 @@ class Names:
                     break
                 j = below[0]
             self.last[i] = j
+        self.goals = [self.index[plain(a[0])] for a in names["asked_at"]]
         self.want = len(names["needs"]) + 2 * len(names["loops"])
 
     def up(self, place, k):
@@ -152,6 +153,33 @@ class Turner:
 
         return re.sub(r"(\(" + TOKEN + r" " + TOKEN + r"(?:\.before)*\))((?:\.(?:" + TOKEN + r"))+)", lambda m: given(m) if self.is_place(m.group(1)) else m.group(0), text)
 
+    def spec(self, whole):
+        """Turns what a proof gives for each goal in its place."""
+        start = whole.index("(tie.spec") + len("(tie.spec")
+        parts, depth, begin = [], 0, start
+        for i in range(start, len(whole)):
+            ch = whole[i]
+            if ch == "(":
+                depth += 1
+            elif ch == ")":
+                if depth == 0:
+                    parts.append((begin, i))
+                    break
+                depth -= 1
+            elif ch.isspace() and depth == 0:
+                parts.append((begin, i))
+                begin = i
+        parts = [(a, b) for a, b in parts if whole[a:b].strip()]
+        goals = self.n.goals
+        skip = len(parts) - len(goals)
+        out, at = [whole[:start]], start
+        for k, (a, b) in enumerate(parts):
+            out.append(whole[at:a])
+            self.vars = {"c": goals[k - skip]} if skip == 2 * len(self.n.loops) and k >= skip else {}
+            out.append(self.expression(whole[a:b]))
+            at = b
+        return "".join(out) + whole[at:]
+
     def is_place(self, call):
         return call[1:].split(" ")[0] in self.gives
 
@@ -167,8 +195,25 @@ class Turner:
             else:
                 blocks.append([line])
         out = []
+        module = {}
         for b in blocks:
             whole = "\n".join(b)
+            if not whole.startswith(" ") and not whole.startswith("module _"):
+                module = {}
+            value = re.match(r" +(?:abbrev |pub )*(" + TOKEN + r") : " + PLACE + r" *$", b[0])
+            if module and value:
+                # a place that a module's place leads to
+                self.vars = dict(module)
+                out.append(self.expression(whole))
+                module[value.group(1)] = self.n.index.get(plain(value.group(2)))
+                continue
+            if module and whole.startswith(" "):
+                self.vars = dict(module)
+                out.append(self.expression(whole))
+                continue
+            if "(tie.spec" in whole:
+                out.append(self.spec(whole))
+                continue
             m = re.match(r"( *(?:abbrev |pub )*)(" + TOKEN + r") : tie\.Need-(" + TOKEN + r")(.*)", whole)
             here = re.match(r" *(?:abbrev |pub )*(?:" + TOKEN + r") : .*?" + PLACE, whole.split("=")[0]) or re.match(r" *module _ \(c : " + PLACE, whole)
             if m:
@@ -188,6 +233,8 @@ class Turner:
                     first = re.search(r"(?m)^ *" + TOKEN + r" (c|l|s) ?.*=", whole)
                     if first:
                         self.vars = {first.group(1): at}
+            if whole.startswith("module _"):
+                module = dict(self.vars)
             whole = self.expression(whole)
             out.append(whole)
         text = "\n".join(out)

@@ -11,5 +11,5 @@ returns-3 c = λ z. absurd (c.if-filled-eq0.false z)
 pub write_out_spec : {M : Type 1} → statement M
 write_out_spec =
     tie.close
-    (tie.spec (λ c. search rules) (λ c. sym (length-take-le _ _ c.requires)) (λ c κs. search rules) (λ c. search rules)
+    (tie.spec (λ c. search rules) (λ c. sym (length-take-le _ _ c.before.before.before.requires)) (λ c κs. search rules) (λ c. search rules)
     (λ c. search rules) (λ c κs. search rules) returns-3)

@@ -92,6 +92,6 @@ returns-7 c =
 pub read_datetime_spec : {M : Type 1} → statement M
 read_datetime_spec =
     tie.close
-    (tie.spec (λ c κs. search rules) (λ c. search rules) (λ c. search rules) returns returns-2 (λ c. inside c) returns-3
-    (λ c. omega (arith, inside c.before)) (λ c κs. omega (arith, inside c.before)) (λ c. search rules) (λ c. search rules)
+    (tie.spec (λ c κs. search rules) (λ c. search rules) (λ c. search rules) returns returns-2 (λ c. inside c.before) returns-3
+    (λ c. omega (arith, inside c.before.before)) (λ c κs. omega (arith, inside c.before.before)) (λ c. search rules) (λ c. search rules)
     returns-4 returns-5 (λ c κs. search rules) (λ c. search rules) returns-6 (λ c. search rules) returns-7)

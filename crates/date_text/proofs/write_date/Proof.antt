@@ -26,7 +26,7 @@ returns c = refuses _ _ _ (refused_by c _)
 
 module _ (c : tie.After-date_length) where
   abbrev at_start : tie.Start
-  at_start = c.before
+  at_start = c.before.before.before.before
 
   abbrev room : ℕ
   room = length at_start.args.out.now

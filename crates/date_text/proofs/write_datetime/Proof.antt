@@ -29,10 +29,10 @@ returns c = refuses _ _ _ (refused_by c _)
 
 module _ (c : tie.After-time_length) where
   abbrev told : tie.In_default
-  told = c.before.before.before.before
+  told = c.before.before.before.before.before
 
   abbrev at_start : tie.Start
-  at_start = told.before.before.before.before
+  at_start = told.before.before.before
 
   abbrev room : ℕ
   room = length at_start.args.out.now

@@ -28,7 +28,7 @@ returns c = refuses _ _ _ (not_valid c _)
 
 module _ (c : tie.After-time_length) where
   abbrev at_start : tie.Start
-  at_start = c.before
+  at_start = c.before.before.before.before.before
 
   abbrev room : ℕ
   room = length at_start.args.out.now
@@ -40,11 +40,11 @@ module _ (c : tie.After-time_length) where
 
   no_room : room < length (time_text at_start.args.time) → write_time at_start.args.time room ≡ refused 10
   unfolding write_time
-  no_room h = rw (valid c.before) (too_short room (time_text at_start.args.time) h)
+  no_room h = rw (valid c.before.before) (too_short room (time_text at_start.args.time) h)
 
   enough : length (time_text at_start.args.time) ≤ room → write_time at_start.args.time room ≡ given (time_text at_start.args.time)
   unfolding write_time
-  enough h = rw (valid c.before) (has_room room (time_text at_start.args.time) h)
+  enough h = rw (valid c.before.before) (has_room room (time_text at_start.args.time) h)
 
 returns-2 : tie.Need-returns-then-out-time_length
 returns-2 c = refuses _ _ _ (no_room c.before (omega (arith, long c.before)))
