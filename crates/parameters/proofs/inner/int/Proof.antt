@@ -16,7 +16,7 @@ long-requires : tie.Need-long-requires
 long-requires c κs = wider (signed 32) (signed 64) c.args.n c.args.i refl refl c.requires
 
 back : (c : tie.After-long) → to_z w64 (of_z w64 c.long.result) ≡ c.long.result
-back c = to_z-of_z (record { sfits = c.long.type_inv })
+back c = to_z-of_z {w = w64} (record { sfits = c.long.type_inv })
 
 cast-result : tie.Need-overflow_cast-result
 cast-result c =

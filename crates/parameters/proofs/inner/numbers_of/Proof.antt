@@ -55,8 +55,8 @@ ends : (c : tie.After-word_end-end invariant_loop decreases_loop) → c.word_end
 ends c = end_inside (line (at_loop c)) _ _ (starts c) c.word_end-end.ensures
 
 found : (c : tie.After-number_of-x invariant_loop decreases_loop) → let w = c.before.before.before in let l = at_loop w in
-    of_number c.number_of-x.result ≡ within (letter_kind (get_or (letters l) l.loop.k 0)).low (letter_kind (get_or (letters l) l.loop.k 0)).high
-    (number_of (word (drop (l.loop.at + 1) (line l))))
+    of_number c.number_of-x.result ≡ within (letter_kind (get_or (letters l) l.loop-k.k 0)).low (letter_kind (get_or (letters l) l.loop-k.k 0)).high
+    (number_of (word (drop (l.loop-k.at + 1) (line l))))
 found c =
     let w = c.before.before.before in
     rw (word_there (line (at_loop w)) _ _ (starts w) w.word_end-end.ensures) at c.number_of-x.ensures
@@ -67,9 +67,9 @@ returns-2 c =
     let w = i.before.before.before.before in
     let l = at_loop w in
     reads_as_none c.no_numbers-then-not-is_number.ensures
-    (no_number (letters l) (line l) (from l) l.loop.cells l.loop.k l.loop.at w.word_end-end.result i.number_of-x.result
+    (no_number (letters l) (line l) (from l) l.loop-k.cells l.loop-k.k l.loop-k.at w.word_end-end.result i.number_of-x.result
     w.loop-k-test.true (omega (arith, starts w))
-    (rest_there (line l) _ _ (starts w) w.word_end-end.ensures) (found i.before) l.loop.inv.1.1.1
+    (rest_there (line l) _ _ (starts w) w.word_end-end.ensures) (found i.before) l.loop-k.invariant.1.1.1
     (sym i.is_number.ensures ∙ c.if-not-is_number.true))
 
 small : (l : tie.At-loop-k invariant_loop decreases_loop) → l.loop-k.k < length (letters l) → l.loop-k.k < 24
@@ -81,19 +81,19 @@ loop-again c =
     let w = i.before.before.before.before in
     let l = at_loop w in
     let more = w.loop-k-test.true in
-    let room : l.loop.k < length l.loop.cells = omega (arith, small l more, l.loop.inv.1.1.0.0) in (
+    let room : l.loop-k.k < length l.loop-k.cells = omega (arith, small l more, l.loop-k.invariant.1.1.0.0) in (
       omega (arith, more),
       (
         ends w,
         (
           (
-            length-set l.loop.cells l.loop.k c.cell_of.result ∙ l.loop.inv.1.1.0.0,
-            blank_more l.loop.cells l.loop.k c.cell_of.result (small l more) l.loop.inv.1.1.0.1,
+            length-set l.loop-k.cells l.loop-k.k c.cell_of.result ∙ l.loop-k.invariant.1.1.0.0,
+            blank_more l.loop-k.cells l.loop-k.k c.cell_of.result (small l more) l.loop-k.invariant.1.1.0.1,
           ),
           rw c.cell_of.ensures
-              (one_more (letters l) (line l) (from l) l.loop.cells l.loop.k l.loop.at w.word_end-end.result i.number_of-x.result
+              (one_more (letters l) (line l) (from l) l.loop-k.cells l.loop-k.k l.loop-k.at w.word_end-end.result i.number_of-x.result
               more (omega (arith, starts w))
-              (rest_there (line l) _ _ (starts w) w.word_end-end.ensures) (found i.before) l.loop.inv.1.1.1
+              (rest_there (line l) _ _ (starts w) w.word_end-end.ensures) (found i.before) l.loop-k.invariant.1.1.1
               (sym i.is_number.ensures ∙ c.if-not-is_number.false) room),
         ),
       ),

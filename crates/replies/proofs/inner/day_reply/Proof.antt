@@ -15,9 +15,9 @@ unfolding spaced
 returns c =
     let d = c.before.before in
     let zero = d.before.before.before.before in
-    let r = zero.r-1.given in
-    let back : to_z w64 (of_z w64 r.0.0) ≡ r.0.0 = search rules in
-    rw r.1 (answered zero.put_byte-next.ensures (after (rw back at d.put_integer.ensures.0) (nothing _ _)) (omega arith))
+    let r = c.in-Day in
+    let back : to_z w64 (of_z w64 r.n) ≡ r.n = search rules in
+    rw r.is (answered zero.put_byte-next.ensures (after (rw back at d.put_integer.ensures.0) (nothing _ _)) (omega arith))
 
 returns-2 : tie.Need-returns-in-Refused
 returns-2 c = rw c.in-Refused.is c.refusal.ensures

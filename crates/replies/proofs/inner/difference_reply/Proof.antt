@@ -11,9 +11,9 @@ returns c =
     let tries = c.before.before in
     let d = tries.before.before.before.before.before in
     let zero = d.before.before.before.before in
-    let found = zero.r-1.given in
-    rw found.1
-    (answered_counted (record_values found.0.0.duration) found.0.0.tries
+    let found = c.in-Difference in
+    rw found.is
+    (answered_counted (record_values found.d.duration) found.d.tries
     zero.put_byte-next.ensures d.put_record-tries.ensures.0 tries.put_natural.ensures.0 (omega arith))
 
 returns-2 : tie.Need-returns-in-Refused

@@ -9,7 +9,7 @@ use Rattle.replies.proofs.inner.values.put_time.Statement.{statement}
 use Rattle.replies.proofs.inner.values.put_time.Tie as tie
 
 -- three fields are written, and there is room for the other three
-room : (c : tie.After-put_natural-millisecond) → c.put_natural-millisecond.result + 63 ≤ length c.put_natural-millisecond.new.0
+room : (c : tie.After-put_natural-millisecond) → c.put_natural-millisecond.result + 63 ≤ length c.put_natural-millisecond.new.out
 room c = search rules
 
 put-natural-requires-5 : tie.Need-put_natural-nanosecond-requires
