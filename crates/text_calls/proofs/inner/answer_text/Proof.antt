@@ -59,7 +59,7 @@ returns c =
 not_first : (c : tie.Else-same) → reply_by_text (drop 1 text_calls) (line (start_of (first c.before))) ≡ reply_by_text text_calls (line (start_of (first c.before)))
 not_first c =
     let s = start_of (first c.before) in
-    text_later (line s) s.args.end s.pre.0 (inside (first c.before)) _ _
+    text_later (line s) s.args.end s.requires.0 (inside (first c.before)) _ _
     (λ e. clash c.same.result (c.same.ensures.1 e) c.if-same.false)
 
 not_second : (c : tie.Else-same-2) →
@@ -67,7 +67,7 @@ not_second : (c : tie.Else-same-2) →
 not_second c =
     let f = first (second c.before) in
     let s = start_of f in
-    text_later (line s) s.args.end s.pre.0 (inside f) _ _ (λ e. clash c.same-2.result (c.same-2.ensures.1 e) c.if-same-2.false) ∙
+    text_later (line s) s.args.end s.requires.0 (inside f) _ _ (λ e. clash c.same-2.result (c.same-2.ensures.1 e) c.if-same-2.false) ∙
     not_first c.before.before.before.before
 
 not_third : (c : tie.Else-same-3) →
@@ -76,7 +76,7 @@ not_third : (c : tie.Else-same-3) →
 not_third c =
     let f = first (second (third c.before)) in
     let s = start_of f in
-    text_later (line s) s.args.end s.pre.0 (inside f) _ _ (λ e. clash c.same-3.result (c.same-3.ensures.1 e) c.if-same-3.false) ∙
+    text_later (line s) s.args.end s.requires.0 (inside f) _ _ (λ e. clash c.same-3.result (c.same-3.ensures.1 e) c.if-same-3.false) ∙
     not_second c.before.before.before.before
 
 returns-2 : tie.Need-returns-then-same
@@ -85,7 +85,7 @@ returns-2 c =
     let t = d.before.before.before in
     let f = first t.before in
     let s = start_of f in
-    let named = text_here (line s) s.args.end s.pre.0 (inside f) _ _ (t.same.ensures.0 t.if-same.true) in
+    let named = text_here (line s) s.args.end s.requires.0 (inside f) _ _ (t.same.ensures.0 t.if-same.true) in
     (wrote_as d.read_date.ensures.wrote (ap (λ (l : List ℕ). reply_text (text_answers_of "read_date" l)) (text f) ∙ named), d.read_date.ensures.short)
 
 returns-3 : tie.Need-returns-then-same-2
@@ -94,7 +94,7 @@ returns-3 c =
     let t = d.before.before.before in
     let f = first (second t.before) in
     let s = start_of f in
-    let named = text_here (line s) s.args.end s.pre.0 (inside f) _ _ (t.same-2.ensures.0 t.if-same-2.true) in (
+    let named = text_here (line s) s.args.end s.requires.0 (inside f) _ _ (t.same-2.ensures.0 t.if-same-2.true) in (
       wrote_as d.read_time.ensures.wrote
           (ap (λ (l : List ℕ). reply_text (text_answers_of "read_time" l)) (text f) ∙ named ∙ not_first t.before.before.before.before),
       d.read_time.ensures.short,
@@ -106,7 +106,7 @@ returns-4 c =
     let t = d.before.before.before in
     let f = first (second (third t.before)) in
     let s = start_of f in
-    let named = text_here (line s) s.args.end s.pre.0 (inside f) _ _ (t.same-3.ensures.0 t.if-same-3.true) in (
+    let named = text_here (line s) s.args.end s.requires.0 (inside f) _ _ (t.same-3.ensures.0 t.if-same-3.true) in (
       wrote_as d.read_datetime.ensures.wrote
           (ap (λ (l : List ℕ). reply_text (text_answers_of "read_datetime" l)) (text f) ∙ named ∙ not_second t.before.before.before.before),
       d.read_datetime.ensures.short,
@@ -120,12 +120,12 @@ returns-5 c =
 pub answer_text_spec : {M : Type 1} → statement M
 answer_text_spec =
     tie.close
-    (tie.spec (λ c κs. search rules) (λ c. search rules) returns (λ c. omega (arith, inside c)) (λ c. front c.before) (λ c. search rules)
+    (tie.spec (λ c κs. search rules) (λ c. search rules) returns (λ c. omega (arith, inside c)) (λ c. front c)
     (λ c κs. search rules) (λ c. after_name (first c.before)) (λ c. after_name (first c.before)) (λ c. search rules) (λ c κs. search rules)
     (λ c. search rules) returns-2
-    (λ c. front (first c.before.before)) (λ c. search rules) (λ c κs. search rules) (λ c. after_name (first (second c.before)))
+    (λ c. front (first c.before)) (λ c κs. search rules) (λ c. after_name (first (second c.before)))
     (λ c. after_name (first (second c.before)))
-    (λ c. search rules) (λ c κs. search rules) (λ c. search rules) returns-3 (λ c. front (first (second c.before.before))) (λ c. search rules)
+    (λ c. search rules) (λ c κs. search rules) (λ c. search rules) returns-3 (λ c. front (first (second c.before)))
     (λ c κs. search rules) (λ c. after_name (first (second (third c.before))))
     (λ c. after_name (first (second (third c.before)))) (λ c. search rules) (λ c κs. search rules)
     (λ c. search rules) returns-4 (λ c κs. search rules) (λ c. search rules) returns-5)

@@ -11,7 +11,7 @@ put-head-requires c κs =
     let w = c.before.before.before in
     let r = w.before.before in
     let s = r.before.before.before in
-    head_asks _ _ _ _ s.requires.room r.room.ensures.1 w.write_date-answer.auto.1.0 (write_date r.date-date.result)
+    head_asks _ _ _ _ s.requires.room r.room.ensures.1 w.write_date-answer.auto.out (write_date r.date-date.result)
     w.write_date-answer.result w.write_date-answer.ensures
 
 returns : tie.Need-returns
@@ -20,7 +20,7 @@ returns c =
     let w = d.before.before.before.before in
     let r = w.before.before in
     let s = r.before.before.before in
-    replied_as (text_replied _ _ _ _ s.requires.room r.room.ensures.1 w.write_date-answer.auto.1.0 (write_date r.date-date.result)
+    replied_as (text_replied _ _ _ _ s.requires.room r.room.ensures.1 w.write_date-answer.auto.out (write_date r.date-date.result)
     w.write_date-answer.result w.write_date-answer.ensures _ _ d.put_head.ensures) (rw (r.date-date.ensures, r.room.ensures.0))
 
 pub write_date_spec : {M : Type 1} → statement M
