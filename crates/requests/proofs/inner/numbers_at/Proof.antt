@@ -23,7 +23,7 @@ returns c =
     rw (
       word_there _ _ _ (start_inside _ s.requires.0 _ s.requires.1.0) w.word_end-stop.ensures,
       letters_there _ s.requires.0 _ s.requires.1.0,
-    ) at c.Numbers-of.ensures
+    ) at c.numbers_of.ensures
 
 pub numbers_at_spec : {M : Type 1} → statement M
 numbers_at_spec =

@@ -44,56 +44,56 @@ inside : (w : tie.After-word_end-end) → w.word_end-end.result ≤ length (line
 inside w = omega (arith, ends w, word_inside (line w))
 
 slice-aggregate-place-of : tie.Need-slice_bounds-place_of-end
-slice-aggregate-place-of c = sym (length-take-le _ _ (inside c.before))
+slice-aggregate-place-of c = sym (length-take-le _ _ (inside c))
 
 place-of-requires : tie.Need-place_of-place-requires
 place-of-requires c κs =
-    let w = c.before in
+    let w = c in
     (w.requires.0, subst (λ (l : List ℕ). spaceless l ≡ true) (sym (name w)) (word_spaceless (line w)))
 
-named : (c : tie.After-place_of-place) → c.place_of-place.result ≡ place_in calls (word (line c.before.before))
-named c = c.place_of-place.ensures ∙ ap (place_in calls) (name c.before.before)
+named : (c : tie.After-place_of-place) → c.place_of-place.result ≡ place_in calls (word (line c.before))
+named c = c.place_of-place.ensures ∙ ap (place_in calls) (name c.before)
 
 returns-3 : tie.Need-returns-then-place-eq-CALLS
 returns-3 c =
     let p = c.before.before in
     let t = p.before.before in
-    let w = t.before.before.before in (
+    let w = t.before.before in (
       wrote_as p.answer_text.ensures.0 (text_reply (line w) w.if-line-eq0.false w.if-line-gt-LONGEST.false _ (named t.before)
           t.if-place-eq-CALLS.true),
       p.answer_text.ensures.1,
     )
 
 known : (c : tie.Else-place-eq-CALLS) → c.place_of-place.result < length calls
-known c = omega (arith, named c.before, place_most calls (word (line c.before.before.before)), c.if-place-eq-CALLS.false)
+known c = omega (arith, named c.before, place_most calls (word (line c.before.before)), c.if-place-eq-CALLS.false)
 
 numbers-at-requires : tie.Need-numbers_at-n-requires
 numbers-at-requires c κs =
-    let w = c.before.before.before in
+    let w = c.before.before in
     (w.requires.0, (known c, inside w))
 
 read : (c : tie.After-numbers_at-n) → Reads c.numbers_at-n.result (arguments (get_or calls c.place_of-place.result no_row).takes
-    (rest (line c.before.before.before.before)))
-read c = rw (follows c.before.before.before.before) at c.numbers_at-n.ensures
+    (rest (line c.before.before.before)))
+read c = rw (follows c.before.before.before) at c.numbers_at-n.ensures
 
 returns-4 : tie.Need-returns-then-not-n
 returns-4 c =
     let p = c.before.before in
     let n = p.before.before.before.before in
-    let w = n.before.before.before.before in (
+    let w = n.before.before.before in (
       wrote_as p.put_byte-then-not-n.ensures
           (no_reply (line w) w.if-line-eq0.false w.if-line-gt-LONGEST.false _ (named n.before.before) (known n.before) _ (read n)
-          (p.if-not-n.true)),
+          (not-true _ p.if-not-n.true)),
       omega (arith, p.put_byte-then-not-n.ensures.ends),
     )
 
 answer-requires : tie.Need-answer-requires
 answer-requires c κs =
     let n = c.before.before.before in
-    let w = n.before.before.before.before in (
+    let w = n.before.before.before in (
       known n.before,
       record {
-        numbers = holds_all _ _ _ (read n) (c.if-not-n.false);
+        numbers = holds_all _ _ _ (read n) (not-false _ c.if-not-n.false);
         room =
             omega (arith, w.requires.1);
       },
@@ -103,10 +103,10 @@ returns-5 : tie.Need-returns
 returns-5 c =
     let p = c.before.before in
     let n = p.before.before.before.before in
-    let w = n.before.before.before.before in (
+    let w = n.before.before.before in (
       wrote_as p.answer.ensures.wrote
           (good_reply (line w) w.if-line-eq0.false w.if-line-gt-LONGEST.false _ (named n.before.before) (known n.before) _ (read n)
-          (p.if-not-n.false)),
+          (not-false _ p.if-not-n.false)),
       p.answer.ensures.short,
     )
 
