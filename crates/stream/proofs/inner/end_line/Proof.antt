@@ -13,10 +13,7 @@ use Rattle.stream.proofs.inner.end_line.Tie as tie
 
 returns : tie.Need-returns-then-s
 returns c =
-    let end = c.before.before in
-    let mark = end.before.before.before.before in
-    let t = mark.before.before in
-    (search rules, λ p h. wrote_as (after mark.put_byte-end.ensures end.put_byte.ensures) (sym (long_lines p (h.longer t.if-s.true))))
+    (search rules, λ p h. wrote_as (after c.put_byte-end.ensures c.put_byte.ensures) (sym (long_lines p (h.longer c.if-s.true))))
 
 slice-aggregate-respond : tie.Need-slice_bounds-respond-end
 slice-aggregate-respond c = sym (length-take-le _ _ c.requires.1.0)
@@ -24,11 +21,9 @@ slice-aggregate-respond c = sym (length-take-le _ _ c.requires.1.0)
 returns-2 : tie.Need-returns
 returns-2 c =
     let w = c.respond.ensures in
-    let t = c.before.before.before.before.before in
-    let s = t.before.before.before.before in
-    let at : s.args.s.filled ≤ length s.args.out.now = omega (arith, s.requires.1.1) in
+    let at : c.args.s.filled ≤ length c.args.out.now = omega (arith, c.requires.1.1) in
     let inside = ends_inside at w in
-    (omega (arith, w.sized), λ p h. wrote_as w (ap response_to (sym (h.whole t.if-s.false))))
+    (omega (arith, w.sized), λ p h. wrote_as w (ap response_to (sym (h.whole c.if-s.false))))
 
 pub end_line_spec : {M : Type 1} → statement M
 end_line_spec =

@@ -8,9 +8,8 @@ use Rattle.stream.proofs.inner.take_byte.Tie as tie
 returns : tie.Need-returns-then-b-eq10
 returns c =
     let e = c.end_line-filled in
-    let t = c.before.before.before.before.before in
-    let pre = t.requires.1 in
-    (refl, took_newline pre.0 pre.1.0 pre.1.1 t.if-b-eq10.true (search rules) e.ensures.1)
+    let pre = c.requires.1 in
+    (refl, took_newline pre.0 pre.1.0 pre.1.1 c.if-b-eq10.true (search rules) e.ensures.1)
 
 returns-2 : tie.Need-returns-then-have-line
 returns-2 c =
