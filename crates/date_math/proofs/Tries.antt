@@ -4,7 +4,7 @@ use native.Mathlib.Omega.{arith}
 use mathlib.Core.Path.{◌≡◌, refl, sym, ◌∙◌}
 use mathlib.Core.Bool.{Bool, true, false, cond, ◌&&◌}
 use lib.Dec.{ltb, leb}
-use lib.IntN.{ℤ, ◌+ℤ◌}
+use lib.IntN.{◌+ℤ◌}
 use Rattle.whole.specs.Whole.{apart, ◌⊖◌}
 use Rattle.iso_date.specs.Proposal.{is_valid_iso_date}
 use Rattle.iso_date.specs.Inner.{year_bias}

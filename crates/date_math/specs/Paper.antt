@@ -1,5 +1,5 @@
 -- What the sum and the difference of dates answer, for every input: the checks in their order with their numbers, then the steps.
-use Rattle.std.specs.Prelude.{◌^◌, ◌-◌, Bool, leb, ℤ, pos, neg_ℤ, ◌+ℤ◌, ◌*ℤ◌}
+use Rattle.std.specs.Prelude.{◌^◌, ◌-◌, Bool, leb, pos, neg_ℤ, ◌+ℤ◌, ◌*ℤ◌}
 use Rattle.refusal.specs.Answer.{Answer, given, refused, check, and_then}
 use Rattle.whole.specs.Whole.{clamp_z}
 use Rattle.iso_date.specs.Proposal.{date, epoch_days}

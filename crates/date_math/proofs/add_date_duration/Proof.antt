@@ -1,6 +1,5 @@
 -- The checks in turn; a regulated date is valid, so the limit call can refuse it by 2 alone; then the days are added.
 use borrow.Author.Rules.{rules}
-use borrow.Author.Tests.{not-true, not-false}
 use mathlib.Core.Path.{◌≡◌, sym, ◌∙◌, ap}
 use mathlib.Core.Bool.{true}
 use mir.Syntax.{w64}

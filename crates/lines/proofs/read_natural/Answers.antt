@@ -15,6 +15,6 @@ returns c =
     let s = c.args.text.now in
     c.digits_value.ensures ∙
     sym (elim c.if-text-gt1.branch [
-      then-text-gt1+else-text-eq48 w ↦ natural_more s (omega arith) w.if-text-eq48.false
+      | then-text-gt1+else-text-eq48 w ↦ natural_more s (omega arith) w.if-text-eq48.false
       | else-text-gt1 w ↦ natural_one s c.if-text-eq0.false (omega arith)
     ])

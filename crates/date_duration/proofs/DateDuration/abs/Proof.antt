@@ -2,7 +2,6 @@
 use borrow.Author.Rules.{rules}
 use mathlib.Core.Path.{◌≡◌, sym, ◌∙◌, ap}
 use mathlib.Core.Bool.{true}
-use borrow.Author.Tests.{not-true, not-false}
 use Rattle.refusal.specs.Answer.{given}
 use Rattle.date_duration.specs.Proposal.{is_valid_duration}
 use Rattle.date_duration.specs.Paper.{duration_abs}

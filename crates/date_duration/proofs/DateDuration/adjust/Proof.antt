@@ -2,7 +2,6 @@
 use mir.Syntax.{w64}
 use borrow.Author.Rules.{rules}
 use mathlib.Core.Path.{sym, ◌∙◌}
-use borrow.Author.Tests.{not-true, not-false}
 use mir.Facts.{to_z-of_z}
 use Rattle.date_duration.specs.Proposal.{kept_or}
 use Rattle.date_duration.specs.Paper.{duration_adjust}

@@ -1,7 +1,6 @@
 -- The parts as they are, where they are valid.
 use borrow.Author.Rules.{rules}
 use mathlib.Core.Path.{◌≡◌, sym, ◌∙◌}
-use borrow.Author.Tests.{not-true, not-false}
 use mir.Facts.{to_z-of_z}
 use Rattle.date_duration.specs.Proposal.{duration, is_valid_duration}
 use Rattle.date_duration.specs.Paper.{new_duration}

@@ -1,7 +1,6 @@
 -- Of a valid duration the sign of its first part that is not 0.
 use borrow.Author.Rules.{rules}
 use mathlib.Core.Path.{sym, ◌∙◌}
-use borrow.Author.Tests.{not-true, not-false}
 use Rattle.date_duration.specs.Paper.{duration_sign}
 use Rattle.date_duration.proofs.Durations.{handed}
 use Rattle.date_duration.proofs.DateDuration.sign.Statement.{statement}

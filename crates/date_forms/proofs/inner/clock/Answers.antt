@@ -14,7 +14,7 @@ pub returns : goal.returns
 unfolding clock_time
 returns c =
     let is : c.if-second-eq60.read ≡ cond (eqb c.args.second 60) 59 c.args.second = elim c.if-second-eq60.branch [
-      then-second-eq60 w ↦ sixty c.args.second c.if-second-eq60.read w.if-second-eq60.true w.read-is
+      | then-second-eq60 w ↦ sixty c.args.second c.if-second-eq60.read w.if-second-eq60.true w.read-is
       | else-second-eq60 w ↦ not_sixty c.args.second c.if-second-eq60.read w.if-second-eq60.false w.read-is
     ] in
     rw is

@@ -1,7 +1,6 @@
 -- Fields, then limits.
 use borrow.Author.Rules.{rules}
 use mathlib.Core.Path.{sym, ◌∙◌}
-use borrow.Author.Tests.{not-true, not-false}
 use Rattle.iso_date.proofs.Answers.{limits_bad, limits_out, limits_within}
 use Rattle.iso_date.proofs.IsoDate.check_within_limits.Statement.{statement}
 use Rattle.iso_date.proofs.IsoDate.check_within_limits.Tie as tie

@@ -3,7 +3,6 @@ use borrow.Author.Rules.{rules}
 use native.Mathlib.Omega.{arith}
 use mathlib.Core.Path.{◌≡◌, sym, ◌∙◌, ap}
 use mathlib.Core.Bool.{true}
-use borrow.Author.Tests.{not-true, not-false}
 use mir.Facts.{to_z-of_z}
 use Rattle.whole.proofs.Laws.{ints, read_diff}
 use Rattle.iso_date.specs.Inner.{day_bias}

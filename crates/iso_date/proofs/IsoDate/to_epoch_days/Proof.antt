@@ -4,7 +4,6 @@ use mathlib.Core.Path.{◌≡◌, sym, ◌∙◌, ap}
 use mathlib.Core.Bool.{true}
 use mir.Facts.{to_z-of_z}
 use mir.Syntax.{w64}
-use borrow.Author.Tests.{not-true, not-false}
 use Rattle.refusal.specs.Answer.{given}
 use Rattle.iso_date.specs.Proposal.{is_valid_iso_date, epoch_days}
 use Rattle.iso_date.specs.Paper.{balanced}

@@ -1,7 +1,6 @@
 -- The fields of the date, those of the time, then the limits.
 use borrow.Author.Rules.{rules}
 use mathlib.Core.Path.{sym, ◌∙◌}
-use borrow.Author.Tests.{not-true, not-false}
 use Rattle.iso_date_time.proofs.Moments.{limits_date, limits_time, limits_out, limits_within}
 use Rattle.iso_date_time.proofs.IsoDateTime.check_within_limits.Statement.{statement}
 use Rattle.iso_date_time.proofs.IsoDateTime.check_within_limits.Tie as tie

@@ -1,7 +1,6 @@
 -- The two tests are those of the rule, each 7, and past them the record is given.
 use borrow.Author.Rules.{rules}
 use mathlib.Core.Path.{sym, ◌∙◌}
-use borrow.Author.Tests.{not-true, not-false}
 use mir.Facts.{to_z-of_z}
 use Rattle.iso_date_time.proofs.Instants.{no_instant, no_offset, instant_given}
 use Rattle.iso_date_time.proofs.IsoDateTime.from_epoch_nanos.Statement.{statement}

@@ -1,7 +1,6 @@
 -- The bound of every field first; within it the balance is the definition's.
 use borrow.Author.Rules.{rules}
 use mathlib.Core.Path.{◌≡◌, sym, ◌∙◌}
-use borrow.Author.Tests.{not-true, not-false}
 use mir.Facts.{to_z-of_z}
 use Rattle.iso_time.specs.Paper.{all_bounded, balance_time_fields}
 use Rattle.iso_time.proofs.Checks.{all_within}

@@ -2,7 +2,6 @@
 use borrow.Author.Rules.{rules}
 use mathlib.Core.Path.{◌≡◌, sym, ◌∙◌}
 use mathlib.Core.Bool.{true}
-use borrow.Author.Tests.{not-true, not-false}
 use Rattle.iso_time.specs.Proposal.{is_valid_time, difference_time}
 use Rattle.iso_time.specs.Paper.{time_difference}
 use Rattle.iso_time.proofs.IsoTime.diff.Statement.{statement}

@@ -2,7 +2,6 @@
 use borrow.Author.Rules.{rules}
 use mathlib.Core.Path.{◌≡◌, sym, ◌∙◌}
 use mathlib.Core.Bool.{true}
-use borrow.Author.Tests.{not-true, not-false}
 use Rattle.iso_time.specs.Proposal.{is_valid_time, valid_increment}
 use Rattle.iso_time.specs.Paper.{is_rounding_unit, rounded_time}
 use Rattle.iso_time.proofs.Checks.{no_unit, some_unit, length_some}

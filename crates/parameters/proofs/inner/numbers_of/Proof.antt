@@ -4,7 +4,6 @@ use Prim.Native.Nat.{ℕ, ◌+◌, ◌-◌, ◌≤◌, ◌<◌}
 use native.Mathlib.Omega.{arith}
 use mathlib.Core.Path.{◌≡◌, refl, sym, ◌∙◌}
 use mathlib.Core.List.{List, []}
-use borrow.Author.Tests.{not-true, not-false}
 use lib.ListN.{length, drop, get_or, replicate, length-set}
 use Rattle.lines.specs.Text.{word, number_of, within}
 use Rattle.lines.specs.Meaning.{of_number}

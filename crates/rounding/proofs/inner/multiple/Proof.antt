@@ -1,7 +1,6 @@
 -- The lower multiple, or the next where there is room for it.
 use borrow.Author.Rules.{rules}
 use native.Mathlib.Omega.{arith}
-use borrow.Author.Tests.{not-true, not-false}
 use Rattle.rounding.proofs.Rounds.{not_up, went_up, past_up}
 use Rattle.rounding.proofs.inner.multiple.Statement.{statement}
 use Rattle.rounding.proofs.inner.multiple.Tie as tie
