@@ -252,7 +252,7 @@ module _ (one two : IsoDate) (unit : TemporalUnit) (one_fine : Fine one) (two_fi
         no_years = λ e. zero_part years (no_years_counted e);
         no_months = λ e. zero_part months (no_months_counted e);
         no_weeks = λ e. zero_part (weeks_in unit rest) (no_weeks_counted e);
-        most_years_lem = λ e.
+        most_years = λ e.
             rw (years_counted e)
             (most_of forward (place_of one) (place_of two) gap 384 (omega arith) far (λ k. on_the_way one two (in_years one k)) years_way);
         most_months = λ e.
@@ -307,7 +307,7 @@ module _ (one two : IsoDate) (unit : TemporalUnit) (one_fine : Fine one) (two_fi
     where
       years_same : (t : Bool) → counts_years unit ≡ t → r.years ≡ directed forward years
       years_same true e =
-          most_is forward (place_of one) (place_of two) gap 384 (omega arith) far (λ k. on_the_way one two (in_years one k)) years_way r.years (m.most_years_lem e) ∙
+          most_is forward (place_of one) (place_of two) gap 384 (omega arith) far (λ k. on_the_way one two (in_years one k)) years_way r.years (m.most_years e) ∙
           ap (directed forward) (sym (years_counted e))
       years_same false e = m.no_years e ∙ sym (zero_part years (no_years_counted e))
 

@@ -25,7 +25,7 @@ pub record MeetsTheRules (one two : IsoDate) (unit : TemporalUnit) (r : DateDura
   pub no_years : counts_years unit ≡ false → r.years ≡ pos 0
   pub no_months : counts_months unit ≡ false → r.months ≡ pos 0
   pub no_weeks : counts_weeks unit ≡ false → r.weeks ≡ pos 0
-  pub most_years_lem : counts_years unit ≡ true → Most (λ k. on_the_way one two (in_years one k)) r.years
+  pub most_years : counts_years unit ≡ true → Most (λ k. on_the_way one two (in_years one k)) r.years
   -- months are counted on from where the years lead
   pub most_months : counts_months unit ≡ true → Most (λ k. on_the_way (in_years one r.years) two (moved_by one r.years k)) r.months
   pub whole_weeks : counts_weeks unit ≡ true → nat_abs r.days < 7
