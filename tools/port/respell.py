@@ -15,8 +15,6 @@ import re
 import sys
 
 WORD = r"[^\s(){}\[\];,.@\"`:|]+"
-CAMEL = re.compile(r"(?<![A-Za-z0-9_\-·])([a-z][a-z0-9]*(?:[A-Z][A-Za-z0-9]*)+)(?![A-Za-z0-9_])")
-ALSO = {"'"}
 
 
 def snake(name):
@@ -41,7 +39,6 @@ def files(kind):
     return sorted(p for p in glob.glob("crates/**/*" + kind, recursive=True) if "/out/" not in p)
 
 
-DEFINED = re.compile(r"^(?P<indent> *)(?:(?:unfoldable|abbrev|pub|record|data|ruleset|«)\s+)*(?P<name>" + WORD + r")(?P<rest>.*)$")
 SIGNATURE = re.compile(r"^( *)(?:unfoldable +)?(?:abbrev +)?(?:pub +)?(" + WORD + r") :(?: |$)(.*)")
 HEADED = re.compile(r"^( *)(?:unfoldable +)?(?:abbrev +)?(?:pub +)?(?:record|data|ruleset) +(" + WORD + r")")
 
@@ -139,11 +136,8 @@ def turn_proof(line, word, turn, turn_camel):
 
 def turn_line(line, word, turn, turn_camel):
     """Of a source only clauses, imports for clauses and comments have antt's names; code has its own."""
-    if re.match(r"\s*(ghost |requires|ensures|and |×)", line) or "≡" in line or "≤" in line:
-        return word.sub(turn, line)
-    if re.match(r"\s*//", line):
-        return word.sub(turn_camel, line)
-    return word.sub(turn_camel, line)
+    clause = re.match(r"\s*(ghost |requires|ensures|and |×)", line) or "≡" in line or "≤" in line
+    return word.sub(turn if clause else turn_camel, line)
 
 
 def clash(path, text, table):

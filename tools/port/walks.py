@@ -186,7 +186,7 @@ class Turner:
     def file(self, text, function):
         self.gives = set(re.findall(r"(?m)^ *(?:abbrev )?(" + TOKEN + r") : (?:.* → )?tie\.(?:After|At|In|Then|Else|Joined|Start)[^→\n]*$", text))
         lines = text.split("\n")
-        blocks, at = [], None
+        blocks = []
         for line in lines:
             if re.match(r" *(?:abbrev |pub )*(?:" + TOKEN + r") : ", line) or re.match(r" *module _ ", line):
                 blocks.append([line])

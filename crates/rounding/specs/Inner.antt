@@ -26,14 +26,14 @@ sign_column true = 1
 
 -- whether the upper multiple is taken
 abbrev pub up_by : UnsignedRoundingMode → Bool → ℕ → ℕ → Bool
-up_by U.Infinity isOdd d1 d2 = true
-up_by U.Zero isOdd d1 d2 = false
-up_by U.HalfInfinity isOdd d1 d2 = leb d2 d1
-up_by U.HalfZero isOdd d1 d2 = ltb d2 d1
-up_by U.HalfEven isOdd d1 d2 = cond isOdd (leb d2 d1) (ltb d2 d1)
+up_by U.Infinity is_odd d1 d2 = true
+up_by U.Zero is_odd d1 d2 = false
+up_by U.HalfInfinity is_odd d1 d2 = leb d2 d1
+up_by U.HalfZero is_odd d1 d2 = ltb d2 d1
+up_by U.HalfEven is_odd d1 d2 = cond is_odd (leb d2 d1) (ltb d2 d1)
 
 unfoldable pub takes_up : UnsignedRoundingMode → Bool → ℕ → ℕ → Bool
-takes_up rule isOdd d1 d2 = cond (eqb d1 0) false (up_by rule isOdd d1 d2)
+takes_up rule is_odd d1 d2 = cond (eqb d1 0) false (up_by rule is_odd d1 d2)
 
 unfoldable pub sized : ℕ → ℕ → Size
 sized n most = cond (leb n most) (S.Is n) S.Past

@@ -14,19 +14,19 @@ row_of false positive negative = positive
 row_of true positive negative = negative
 
 unfoldable pub get_unsigned_rounding_mode : RoundingMode → Bool → UnsignedRoundingMode
-get_unsigned_rounding_mode M.Ceil isNegative = row_of isNegative U.Infinity U.Zero
-get_unsigned_rounding_mode M.Floor isNegative = row_of isNegative U.Zero U.Infinity
-get_unsigned_rounding_mode M.Expand isNegative = row_of isNegative U.Infinity U.Infinity
-get_unsigned_rounding_mode M.Trunc isNegative = row_of isNegative U.Zero U.Zero
-get_unsigned_rounding_mode M.HalfCeil isNegative = row_of isNegative U.HalfInfinity U.HalfZero
-get_unsigned_rounding_mode M.HalfFloor isNegative = row_of isNegative U.HalfZero U.HalfInfinity
-get_unsigned_rounding_mode M.HalfExpand isNegative = row_of isNegative U.HalfInfinity U.HalfInfinity
-get_unsigned_rounding_mode M.HalfTrunc isNegative = row_of isNegative U.HalfZero U.HalfZero
-get_unsigned_rounding_mode M.HalfEven isNegative = row_of isNegative U.HalfEven U.HalfEven
+get_unsigned_rounding_mode M.Ceil is_negative = row_of is_negative U.Infinity U.Zero
+get_unsigned_rounding_mode M.Floor is_negative = row_of is_negative U.Zero U.Infinity
+get_unsigned_rounding_mode M.Expand is_negative = row_of is_negative U.Infinity U.Infinity
+get_unsigned_rounding_mode M.Trunc is_negative = row_of is_negative U.Zero U.Zero
+get_unsigned_rounding_mode M.HalfCeil is_negative = row_of is_negative U.HalfInfinity U.HalfZero
+get_unsigned_rounding_mode M.HalfFloor is_negative = row_of is_negative U.HalfZero U.HalfInfinity
+get_unsigned_rounding_mode M.HalfExpand is_negative = row_of is_negative U.HalfInfinity U.HalfInfinity
+get_unsigned_rounding_mode M.HalfTrunc is_negative = row_of is_negative U.HalfZero U.HalfZero
+get_unsigned_rounding_mode M.HalfEven is_negative = row_of is_negative U.HalfEven U.HalfEven
 
 -- the nearer of the two, or what is said of the middle
 abbrev pub nearer : ℤ → ℕ → ℕ → ℤ → ℤ
-nearer r1 d1 d2 atMiddle = cond (ltb d1 d2) r1 (cond (ltb d2 d1) (r1 +ℤ pos 1) atMiddle)
+nearer r1 d1 d2 at_middle = cond (ltb d1 d2) r1 (cond (ltb d2 d1) (r1 +ℤ pos 1) at_middle)
 
 -- ApplyUnsignedRoundingMode(q, r1, r2, rule) where q is not r1
 abbrev pub apply_rule : UnsignedRoundingMode → ℤ → ℕ → ℕ → ℤ
