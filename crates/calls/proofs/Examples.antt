@@ -20,7 +20,7 @@ use Rattle.date_math.specs.Proposal.{moved_by, is_later, kept, years_until, mont
 use Rattle.date_math.specs.Proposal.{weeks_found, date_until, calendar_date_until}
 use Rattle.date_math.specs.Paper.{sum_steps, date_sum, date_difference}
 use Rattle.date_math.specs.Tries.{tries, year_tries, month_tries, tries_until, calendar_date_tries}
-use Rattle.date_math.specs.Inner.{place_of, years_in, months_in, weeks_in, year_tries_in, tries_in}
+use Rattle.date_math.specs.Inner.{place_of, years_in, months_in, weeks_in, tries_in}
 use Rattle.date_math.proofs.Until.{difference_is}
 use Rattle.date_math.proofs.Tries.{tries_found, with_tries}
 use Rattle.date_math.proofs.Counts.{all_given}
@@ -33,7 +33,7 @@ use Rattle.calls.specs.Readings.{AllAnswered, readings}
 -- are tried are taken in closed form
 whole_span : answers_of "date_difference" (neg_ℤ (pos 271821) ∷ pos 4 ∷ pos 19 ∷ pos 275760 ∷ pos 9 ∷ pos 13 ∷ pos 0 ∷ []) ≡
     shown (λ vs. vs) (given (pos 547581 ∷ pos 4 ∷ pos 0 ∷ pos 25 ∷ pos 8 ∷ []))
-unfolding place_of years_in months_in weeks_in year_tries_in tries_in fdiv fmod day_from_year leap_year month_lengths iso_days_in_month days_before_month day_from_month
+unfolding place_of years_in months_in weeks_in tries_in fdiv fmod day_from_year leap_year month_lengths iso_days_in_month days_before_month day_from_month
     iso_date_to_epoch_days is_valid_iso_date constrain_iso_date ns_within_limits moved_by rest_start
 whole_span =
     let one : IsoDate = date (neg_ℤ (pos 271821)) 4 19 in

@@ -1,33 +1,35 @@
--- Parts within their bounds, and tests one after another.
+-- Parts within their bounds, the sign part by part, and what a checked duration tells.
 use Prim.Native.Nat.{ℕ, ◌*◌, ◌^◌, ◌≤◌, ◌<◌}
 use native.Mathlib.Omega.{arith}
 use mathlib.Core.Path.{◌≡◌, refl, sym, ◌∙◌, ap}
-use mathlib.Core.Bool.{true, ◌&&◌, ◌||◌}
-use borrow.Author.Tests.{leb-true, leb-false, lt-ltb, le-ltb, ltb-true, ne_eqb}
+use mathlib.Core.Bool.{Bool, true, false, ◌&&◌, ◌||◌}
+use borrow.Author.Tests.{leb-true, leb-false, lt-ltb, le-ltb, ltb-true}
 use lib.Dec.{leb, ltb}
 use lib.IntN.{ℤ, pos, negsuc, neg_ℤ, nat_abs, ◌-ℤ◌, +ℤ_idl}
-use lib.Signed.{lt_z, le_z, mag, ◌≤ℤ◌, ◌<ℤ◌}
+use lib.Signed.{lt_z}
 use mir.Facts.{to_z-of_z}
 use mir.Syntax.{w64}
 use mir.Val.{SFits, to_z, of_z}
-use Rattle.whole.proofs.Laws.{ints, size_of, range_of, read_neg, size_within}
-use Rattle.whole.proofs.Tests.{alike, both, or_assoc}
-use Rattle.date_duration.specs.Proposal.{kept_or, duration, any_below, any_above, small, small_days, all_small, is_valid_duration}
-use Rattle.date_duration.specs.Proposal.{sign_of, or_else}
-use Rattle.date_duration.specs.Paper.{new_duration, duration_adjust}
-use Rattle.date_duration.specs.declared.Part.{Part}
+use Rattle.std.specs.declared.cmp.Ordering.{Ordering}
+use Rattle.std.specs.declared.cmp.Ordering.TheVariants.{Less, Equal, Greater}
+use Rattle.std.specs.Ordering.{ordering_then, int_cmp}
+use Rattle.std.specs.List.{list_any, list_all}
+use Rattle.std.specs.Prelude.{Option, List, [], ◌∷◌}
+use Rattle.std.proofs.lemmas.Bool.Decides.{nat_tests}
+use Rattle.whole.proofs.Laws.{size_of, range_of, read_neg}
+use Rattle.whole.proofs.Tests.{alike, both, and_assoc}
+use Rattle.refusal.specs.Answer.{Answer, number_of, given, refused, check}
+use Rattle.refusal.proofs.Answers.{given_inj, never}
+use Rattle.date_duration.specs.Proposal.{any_below, any_above, duration, absolute, negation, adjusted, small, small_days, all_small, is_valid_duration}
+use Rattle.date_duration.specs.Inner.{sign_from}
+use Rattle.date_duration.specs.Proposal.{sign_of, or_else, date_duration_sign}
+use Rattle.date_duration.specs.Paper.{new_duration, duration_sign, duration_abs, duration_negated, duration_adjust}
 use Rattle.date_duration.specs.declared.DateDuration.{DateDuration}
-use Rattle.date_duration.specs.declared.Sign.{Sign}
-use Rattle.date_duration.specs.declared.Sign.TheVariants.{Negative, Zero, Positive}
 
 -- ---- parts
 
 pub same_parts : (a b c d a' b' c' d' : ℤ) → a ≡ a' → b ≡ b' → c ≡ c' → d ≡ d' → duration a b c d ≡ duration a' b' c' d'
 same_parts a b c d a' b' c' d' p q r s = rw (p, q, r, s)
-
--- what a function makes of a part, handed over and back
-pub part_is : (f : ℤ → ℤ) {x r : ℤ} → mag x < 2 ^ 63 → mag r < 2 ^ 63 → r ≡ f (to_z w64 (of_z w64 x)) → to_z w64 (of_z w64 r) ≡ f x
-part_is f h k e = to_z-of_z {w = w64} (record { sfits = k }) ∙ e ∙ ap f (to_z-of_z {w = w64} (record { sfits = h }))
 
 -- ---- bounds
 
@@ -35,15 +37,19 @@ same_test : (n k a b : ℕ) → (n ≤ k → a < b) → (k < n → b ≤ a) → 
 same_test n k a b f g = alike (leb n k) (ltb a b) (λ e. lt-ltb a b (f (leb-true n k e))) (λ e. le-ltb a b (g (leb-false n k e)))
 
 -- the size that each part may have
-module _ (z : ℤ) where
-  pub small_is : (le_z (neg_ℤ (pos 4294967295)) z && le_z z (pos 4294967295)) ≡ small z
-  unfolding small
-  small_is = size_within z 4294967295 ∙ same_test (nat_abs z) 4294967295 (nat_abs z) (2 ^ 32) (λ l. omega arith) (λ l. omega arith)
+abbrev pub most_part : ℕ
+most_part = 4_294_967_295
 
-  pub small_days_is : (le_z (neg_ℤ (pos 104249991374)) z && le_z z (pos 104249991374)) ≡ small_days z
-  unfolding small_days
-  small_days_is =
-      size_within z 104249991374 ∙ same_test (nat_abs z) 104249991374 (nat_abs z * 86400) (2 ^ 53) (λ l. omega arith) (λ l. omega arith)
+abbrev pub most_days : ℕ
+most_days = 104_249_991_374
+
+pub small_is : (z : ℤ) → leb (nat_abs z) most_part ≡ small z
+unfolding small
+small_is z = same_test (nat_abs z) most_part (nat_abs z) (2 ^ 32) (λ l. omega arith) (λ l. omega arith)
+
+pub small_days_is : (z : ℤ) → leb (nat_abs z) most_days ≡ small_days z
+unfolding small_days
+small_days_is z = same_test (nat_abs z) most_days (nat_abs z * 86400) (2 ^ 53) (λ l. omega arith) (λ l. omega arith)
 
 -- the parts of a valid duration are small
 pub record Bounded (d : DateDuration) : Type 0 where
@@ -65,98 +71,117 @@ bounded d e =
       days_low = omega (arith, ltb-true (nat_abs d.days * 86400) (2 ^ 53) c.1);
     }
 
--- and so can be turned; each as a local hands it back
-pub record Turnable (z : ℤ) : Type 0 where
-  pub fits : SFits w64 z
-  pub low : nat_abs z < 2 ^ 62
+-- ---- tests of part after part
 
-pub record AllTurnable (d : DateDuration) : Type 0 where
-  pub of_years : Turnable d.years
-  pub of_months : Turnable d.months
-  pub of_weeks : Turnable d.weeks
-  pub of_days : Turnable d.days
+abbrev pub all_parts : DateDuration → List ℤ
+all_parts d = d.years ∷ d.months ∷ d.weeks ∷ d.days ∷ []
 
--- the parts of a record that was handed over: each fits 64 bits
-module _ (d : DateDuration) (y : mag d.years < 2 ^ 63) (m : mag d.months < 2 ^ 63) (w : mag d.weeks < 2 ^ 63)
-    (n : mag d.days < 2 ^ 63) where
-  pub handed : duration (to_z w64 (of_z w64 d.years)) (to_z w64 (of_z w64 d.months)) (to_z w64 (of_z w64 d.weeks)) (to_z w64 (of_z w64 d.days)) ≡ d
-  handed =
-      same_parts _ _ _ _ _ _ _ _ (to_z-of_z {w = w64} (record { sfits = y })) (to_z-of_z {w = w64} (record { sfits = m })) (to_z-of_z {w = w64} (record { sfits = w }))
-      (to_z-of_z {w = w64} (record { sfits = n }))
+or_false : (a : Bool) → (a || false) ≡ a
+or_false true = refl
+or_false false = refl
 
-  pub turnable : is_valid_duration d ≡ true → AllTurnable d
-  turnable e =
-      let b = bounded d e in
-      record {
-        of_years = record { fits = record { sfits = y }; low = omega arith };
-        of_months = record { fits = record { sfits = m }; low = omega arith };
-        of_weeks = record { fits = record { sfits = w }; low = omega arith };
-        of_days = record { fits = record { sfits = n }; low = omega arith };
-      }
+and_true : (a : Bool) → (a && true) ≡ a
+and_true true = refl
+and_true false = refl
 
-module _ {z : ℤ} (p : Turnable z) where
-  pub low_back : nat_abs (to_z w64 (of_z w64 z)) < 2 ^ 62
-  low_back = rw (to_z-of_z p.fits) p.low
+and_three : (a b c d : Bool) → ((a && (b && c)) && d) ≡ (a && (b && (c && d)))
+and_three true b c d = and_assoc b c d
+and_three false b c d = refl
 
-  pub turn_fits : SFits w64 (pos 0 -ℤ to_z w64 (of_z w64 z))
-  turn_fits = rw (to_z-of_z p.fits, +ℤ_idl (neg_ℤ z)) (omega (arith, p.low, read_neg z, size_of z, range_of z, range_of (neg_ℤ z)))
-
-  pub turn_is : to_z w64 (of_z w64 (pos 0 -ℤ to_z w64 (of_z w64 z))) ≡ neg_ℤ z
-  turn_is = to_z-of_z turn_fits ∙ rw (to_z-of_z p.fits) (+ℤ_idl (neg_ℤ z))
-
-  pub size_is : {r : ℤ} → mag r < 2 ^ 63 → r ≡ pos (nat_abs (to_z w64 (of_z w64 z))) → to_z w64 (of_z w64 r) ≡ pos (nat_abs z)
-  size_is h e = to_z-of_z {w = w64} (record { sfits = h }) ∙ rw (to_z-of_z p.fits) at e
-
--- ---- the tests, one after another
-
-module _ (y m w d : ℤ) where
-  pub below_tests : (((lt_z y (pos 0) || lt_z m (pos 0)) || lt_z w (pos 0)) || lt_z d (pos 0)) ≡ any_below (duration y m w d)
+module _ (d : DateDuration) where
+  pub below_is : list_any (λ z. lt_z z (pos 0)) (all_parts d) ≡ any_below d
   unfolding any_below
-  below_tests = simp or_assoc
+  below_is = simp or_false
 
-  pub above_tests : (((lt_z (pos 0) y || lt_z (pos 0) m) || lt_z (pos 0) w) || lt_z (pos 0) d) ≡ any_above (duration y m w d)
+  pub above_is : list_any (λ z. lt_z (pos 0) z) (all_parts d) ≡ any_above d
   unfolding any_above
-  above_tests = simp or_assoc
+  above_is = simp or_false
 
--- ---- signs
+  pub smalls_are : (list_all (λ z. leb (nat_abs z) most_part) (d.years ∷ d.months ∷ d.weeks ∷ []) && leb (nat_abs d.days) most_days) ≡ all_small d
+  unfolding all_small
+  smalls_are = simp (small_is, small_days_is, and_true) (and_three (small d.years) (small d.months) (small d.weeks) (small_days d.days))
 
-pub sign_below : (z : ℤ) → z <ℤ pos 0 → Negative ≡ sign_of z
+-- ---- the sign, part by part
+
+abbrev pub order_of : DateDuration → Ordering
+order_of d =
+    ordering_then (ordering_then (ordering_then (int_cmp d.years (pos 0)) (int_cmp d.months (pos 0))) (int_cmp d.weeks (pos 0)))
+    (int_cmp d.days (pos 0))
+
+part_sign : (z : ℤ) → sign_from (int_cmp z (pos 0)) ≡ sign_of z
 unfolding sign_of
-sign_below (pos n) h = let f : ⊥ = omega (arith, ints) in absurd f
-sign_below (negsuc n) h = refl
+part_sign (pos n) = grind (arith, nat_tests)
+part_sign (negsuc n) = refl
 
-pub sign_none : (z : ℤ) → z ≡ pos 0 → Zero ≡ sign_of z
-unfolding sign_of
-sign_none z e = rw e
+then_sign : (a b : Ordering) → sign_from (ordering_then a b) ≡ or_else (sign_from a) (sign_from b)
+then_sign Less b = refl
+then_sign Equal b = refl
+then_sign Greater b = refl
 
-pub sign_above : (z : ℤ) → pos 0 ≤ℤ z → (z ≡ pos 0 → ⊥) → Positive ≡ sign_of z
-unfolding sign_of
-sign_above (pos n) h k = rw (ne_eqb n 0 (λ e. k (ap pos e)))
-sign_above (negsuc n) h k = let f : ⊥ = omega (arith, ints) in absurd f
+then_then : (a b c : Ordering) → ordering_then (ordering_then a b) c ≡ ordering_then a (ordering_then b c)
+then_then Less b c = refl
+then_then Equal b c = refl
+then_then Greater b c = refl
 
--- by the bits of a number, as the code compares them
-pub first_is : (z : ℤ) (rest : Sign) → (of_z w64 z ≡ 0 → ⊥) → sign_of z ≡ or_else (sign_of z) rest
-unfolding sign_of
-first_is (pos n) rest h = rw (ne_eqb n 0 (λ e. h (rw e)))
-first_is (negsuc n) rest h = refl
+pub sign_is : (d : DateDuration) → sign_from (order_of d) ≡ date_duration_sign d
+unfolding date_duration_sign
+sign_is d = simp (then_then, then_sign, part_sign)
 
-pub first_none : (z : ℤ) (rest : Sign) → SFits w64 z → of_z w64 z ≡ 0 → rest ≡ or_else (sign_of z) rest
-unfolding sign_of
-first_none z rest f e = rw (sym (to_z-of_z f) ∙ ap (to_z w64) e)
+-- ---- what a checked duration tells
 
--- ---- sizes
+refused_by : {A B : Type 0} (t : Bool) (n : ℕ) (a : A) (rest : Answer B) → refused n ≡ check t 8 (given a) → refused n ≡ check t 8 rest
+refused_by true n a rest e = never a n e
+refused_by false n a rest e = ap (λ x. refused (number_of x)) e
 
-pub size_below : (z : ℤ) → z <ℤ pos 0 → neg_ℤ z ≡ pos (nat_abs z)
-size_below (pos n) h = let f : ⊥ = omega (arith, ints) in absurd f
-size_below (negsuc n) h = refl
+given_by : {A : Type 0} (t : Bool) (a x : A) → given x ≡ check t 8 (given a) → (t ≡ true) × (x ≡ a)
+given_by true a x e = (refl, given_inj x a e)
+given_by false a x e = never x 8 (sym e)
 
-pub size_above : (z : ℤ) → pos 0 ≤ℤ z → z ≡ pos (nat_abs z)
-size_above (pos n) h = refl
-size_above (negsuc n) h = let f : ⊥ = omega (arith, ints) in absurd f
+-- a refusal of the check is the answer, whatever would have followed
+pub unchecked : {A : Type 0} (d : DateDuration) (n : ℕ) (rest : Answer A) → refused n ≡ new_duration d → refused n ≡ check (is_valid_duration d) 8 rest
+unfolding new_duration
+unchecked d n rest = refused_by (is_valid_duration d) n d rest
 
--- ---- what comes out of adjusting
+module _ (d x : DateDuration) (e : given x ≡ new_duration d) where
+  same : (is_valid_duration d ≡ true) × (x ≡ d)
+  unfolding new_duration
+  same = given_by (is_valid_duration d) d x e
 
-pub adjust_is : (d : DateDuration) (days : ℤ) (weeks months : Part) (y m w n : ℤ) → is_valid_duration d ≡ true → y ≡ d.years →
-    m ≡ kept_or months d.months → w ≡ kept_or weeks d.weeks → n ≡ days → new_duration (duration y m w n) ≡ duration_adjust d days weeks months
-unfolding duration_adjust
-adjust_is d days weeks months y m w n v p q r s = rw (v, p, q, r, s)
+  pub checked_valid : is_valid_duration x ≡ true
+  checked_valid = rw (ap is_valid_duration same.1) same.0
+
+  pub sign_given : given (sign_from (order_of x)) ≡ duration_sign d
+  unfolding duration_sign
+  sign_given = rw (same.0, same.1) (ap given (sign_is d))
+
+  pub abs_given : given (absolute x) ≡ duration_abs d
+  unfolding duration_abs
+  abs_given = rw (same.0, same.1)
+
+  pub negated_given : given (negation x) ≡ duration_negated d
+  unfolding duration_negated
+  negated_given = rw (same.0, same.1)
+
+  pub adjust_given : (days : ℤ) (weeks months : Option ℤ) → new_duration (adjusted x days weeks months) ≡ duration_adjust d days weeks months
+  unfolding duration_adjust
+  adjust_given days weeks months = rw (same.0, same.1)
+
+-- ---- parts as locals hand them back
+
+pub turn_fits : (z : ℤ) → nat_abs z < 2 ^ 38 → SFits w64 (neg_ℤ z)
+turn_fits z h = omega (arith, read_neg z, size_of z, range_of z, range_of (neg_ℤ z))
+
+module _ (z : ℤ) (f : SFits w64 z) where
+  pub size_is : (r : ℤ) → SFits w64 r → r ≡ pos (nat_abs (to_z w64 (of_z w64 z))) → to_z w64 (of_z w64 r) ≡ pos (nat_abs z)
+  size_is r g e = to_z-of_z g ∙ rw (to_z-of_z f) at e
+
+  pub turned_fits : nat_abs z < 2 ^ 38 → SFits w64 (pos 0 -ℤ to_z w64 (of_z w64 z))
+  turned_fits h = rw (to_z-of_z f, +ℤ_idl (neg_ℤ z)) (omega (arith, h, read_neg z, size_of z, range_of z, range_of (neg_ℤ z)))
+
+  pub turned_is : nat_abs z < 2 ^ 38 → to_z w64 (of_z w64 (pos 0 -ℤ to_z w64 (of_z w64 z))) ≡ neg_ℤ z
+  turned_is h = to_z-of_z (turned_fits h) ∙ rw (to_z-of_z f) (+ℤ_idl (neg_ℤ z))
+
+-- for the calls, by name
+pub ruleset sign_laws = (unchecked, sign_given)
+
+pub ruleset abs_laws = (unchecked, checked_valid, bounded, turn_fits)

@@ -1,2 +1,1 @@
 pub mod Durations
-pub mod Pinned

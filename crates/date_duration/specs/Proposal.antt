@@ -1,11 +1,9 @@
 -- The steps of the TC39 Temporal proposal on date durations, under their names.
-use Rattle.std.specs.Prelude.{◌*◌, ◌^◌, Bool, cond, not, ◌&&◌, ◌||◌, ltb, eqb, ℤ, pos, negsuc, neg_ℤ, nat_abs}
+use Rattle.std.specs.Prelude.{◌*◌, ◌^◌, Bool, cond, not, ◌&&◌, ◌||◌, ltb, eqb, ℤ, pos, negsuc, neg_ℤ, nat_abs, Option, unwrap_or}
 use Rattle.std.specs.Int.Signed.{lt_z}
 use Rattle.date_duration.specs.declared.DateDuration.{DateDuration}
 use Rattle.date_duration.specs.declared.Sign.{Sign}
 use Rattle.date_duration.specs.declared.Sign.TheVariants.{Negative, Zero, Positive}
-use Rattle.date_duration.specs.declared.Part.{Part}
-use Rattle.date_duration.specs.declared.Part.TheVariants.{Kept, Given}
 
 abbrev pub duration : ℤ → ℤ → ℤ → ℤ → DateDuration
 duration y m w d = record { years = y; months = m; weeks = w; days = d }
@@ -56,9 +54,8 @@ negation d = duration (neg_ℤ d.years) (neg_ℤ d.months) (neg_ℤ d.weeks) (ne
 
 -- ---- AdjustDateDurationRecord(d, days, weeks, months): a part that is not given stays
 
-abbrev pub kept_or : Part → ℤ → ℤ
-kept_or Kept old = old
-kept_or (Given z) old = z
+abbrev pub kept_or : Option ℤ → ℤ → ℤ
+kept_or part old = unwrap_or part old
 
-abbrev pub adjusted : DateDuration → ℤ → Part → Part → DateDuration
+abbrev pub adjusted : DateDuration → ℤ → Option ℤ → Option ℤ → DateDuration
 adjusted d days weeks months = duration d.years (kept_or months d.months) (kept_or weeks d.weeks) days

@@ -1,18 +1,23 @@
 // Date durations: years, months, weeks and days that do not pull opposite ways.
 #![tactic(auto)]
 
-ghost use Rattle.std.specs.Prelude.{◌≡◌, ◌<◌, ◌^◌, nat_abs, pos};
-ghost use Rattle.date_duration.specs.Proposal.{duration, sign_of, small, small_days, all_small, any_below, any_above};
-ghost use Rattle.date_duration.specs.Proposal.{is_valid_duration, date_duration_sign, kept_or};
-ghost use Rattle.date_duration.specs.Paper.{of_duration, of_sign, new_duration, duration_sign, duration_abs, duration_negated, duration_adjust};
+ghost use Rattle.std.specs.Prelude.{◌≡◌, ◌&&◌};
+ghost use Rattle.refusal.specs.Refusals.{answer_of};
+ghost use Rattle.date_duration.specs.Proposal.{duration, all_small, any_below, any_above};
+ghost use Rattle.date_duration.specs.Proposal.{is_valid_duration};
+ghost use Rattle.date_duration.specs.Inner.{sign_from};
+ghost use Rattle.date_duration.specs.Paper.{new_duration, duration_sign, duration_abs, duration_negated, duration_adjust};
+
+use refusal::Refusal;
+use std::cmp::Ordering;
 
 // The largest size of years, months and weeks: 2^32 - 1.
-const MOST_PART: i64 = 4_294_967_295;
+const MOST_PART: u64 = 4_294_967_295;
 // The most days whose seconds are below 2^53: (2^53 - 1) / 86,400, rounded down.
-const MOST_DAYS: i64 = 104_249_991_374;
+const MOST_DAYS: u64 = 104_249_991_374;
 
 // A duration's parts. Any numbers may stand in them; each call that takes a record checks it.
-#[derive(Clone, Copy)]
+#[derive(Clone, Copy, Debug, PartialEq, Eq)]
 pub struct DateDuration {
     pub years: i64,
     pub months: i64,
@@ -20,193 +25,136 @@ pub struct DateDuration {
     pub days: i64,
 }
 
-#[derive(Clone, Copy)]
+// Which way a duration points, and as a number.
+#[derive(Clone, Copy, Debug, PartialEq, Eq)]
 pub enum Sign {
-    Negative,
-    Zero,
-    Positive,
+    Negative = -1,
+    Zero = 0,
+    Positive = 1,
 }
 
-// A part that adjusting keeps, or the one it is given.
-#[derive(Clone, Copy)]
-pub enum Part {
-    Kept,
-    Given(i64),
-}
-
-#[derive(Clone, Copy)]
-pub enum DurationResult {
-    Duration(DateDuration),
-    Refused(u8),
-}
-
-#[derive(Clone, Copy)]
-pub enum SignResult {
-    Sign(Sign),
-    Refused(u8),
-}
-
-fn sign_of(x: i64) -> Sign
-    ensures { result ≡ sign_of x }
-{
-    if x < 0 {
-        return Sign::Negative;
+impl From<Ordering> for Sign {
+    // The sign of a number, from how it compares to 0.
+    fn from(order: Ordering) -> Sign
+        ensures { result ≡ sign_from order }
+    {
+        match order {
+            Ordering::Less => Sign::Negative,
+            Ordering::Equal => Sign::Zero,
+            Ordering::Greater => Sign::Positive,
+        }
     }
-    if x == 0 {
-        return Sign::Zero;
-    }
-    Sign::Positive
-}
-
-// Whether a part is below 2^32 in size.
-fn is_small(x: i64) -> bool
-    ensures { result ≡ small x }
-{
-    (-MOST_PART <= x) & (x <= MOST_PART)
-}
-
-// Whether the seconds of so many days are below 2^53 in size.
-fn is_small_in_days(x: i64) -> bool
-    ensures { result ≡ small_days x }
-{
-    (-MOST_DAYS <= x) & (x <= MOST_DAYS)
-}
-
-// The size of a part of a valid duration.
-fn size(x: i64) -> i64
-    requires { nat_abs x < 2 ^ 62 }
-    ensures { result ≡ pos (nat_abs x) }
-{
-    if x < 0 {
-        return -x;
-    }
-    x
-}
-
-fn kept_or(part: Part, old: i64) -> i64
-    ensures { result ≡ kept_or part old }
-{
-    match part {
-        Part::Kept => old,
-        Part::Given(x) => x,
-    }
-}
-
-fn any_below(years: i64, months: i64, weeks: i64, days: i64) -> bool
-    ensures { result ≡ any_below (duration years months weeks days) }
-{
-    (years < 0) | (months < 0) | (weeks < 0) | (days < 0)
-}
-
-fn any_above(years: i64, months: i64, weeks: i64, days: i64) -> bool
-    ensures { result ≡ any_above (duration years months weeks days) }
-{
-    (years > 0) | (months > 0) | (weeks > 0) | (days > 0)
-}
-
-fn all_small(years: i64, months: i64, weeks: i64, days: i64) -> bool
-    ensures { result ≡ all_small (duration years months weeks days) }
-{
-    is_small(years) & is_small(months) & is_small(weeks) & is_small_in_days(days)
-}
-
-fn are_valid(years: i64, months: i64, weeks: i64, days: i64) -> bool
-    ensures { result ≡ is_valid_duration (duration years months weeks days) }
-{
-    let opposed = any_below(years, months, weeks, days) & any_above(years, months, weeks, days);
-    all_small(years, months, weeks, days) & !opposed
-}
-
-// The sign of the first part that is not 0.
-fn first_sign(years: i64, months: i64, weeks: i64, days: i64) -> Sign
-    ensures { result ≡ date_duration_sign (duration years months weeks days) }
-{
-    if years != 0 {
-        return sign_of(years);
-    }
-    if months != 0 {
-        return sign_of(months);
-    }
-    if weeks != 0 {
-        return sign_of(weeks);
-    }
-    sign_of(days)
 }
 
 impl DateDuration {
+    // Whether years, months and weeks are below 2^32 in size, and the seconds of the days below 2^53.
+    fn all_small(self) -> bool
+        ensures { result ≡ all_small self }
+    {
+        let larger = [self.years, self.months, self.weeks];
+        larger.iter().all(|x| x.unsigned_abs() <= MOST_PART)
+            && self.days.unsigned_abs() <= MOST_DAYS
+    }
+
+    // Whether a part below 0 stands beside one above it.
+    fn is_opposed(self) -> bool
+        ensures { result ≡ (any_below self && any_above self) }
+    {
+        let parts = [self.years, self.months, self.weeks, self.days];
+        parts.iter().any(|x| *x < 0) && parts.iter().any(|x| *x > 0)
+    }
+
     // Whether no two parts are opposed and each is within its bound.
+    #[tactic(auto, unfolding(crate::specs::Proposal::is_valid_duration))]
     pub fn is_valid(self) -> bool
         ensures { result ≡ is_valid_duration self }
     {
-        are_valid(self.years, self.months, self.weeks, self.days)
+        self.all_small() && !self.is_opposed()
+    }
+
+    // The duration itself where it is valid, else 8.
+    #[tactic(auto, unfolding(crate::specs::Paper::new_duration))]
+    fn checked(self) -> Result<DateDuration, Refusal>
+        ensures { answer_of result ≡ new_duration self }
+    {
+        if self.is_valid() {
+            Ok(self)
+        } else {
+            Err(Refusal::Duration)
+        }
     }
 
     // The four parts as a duration, or 8.
-    pub fn new(years: i64, months: i64, weeks: i64, days: i64) -> DurationResult
-        ensures { of_duration result ≡ new_duration (duration years months weeks days) }
+    pub fn new(years: i64, months: i64, weeks: i64, days: i64) -> Result<DateDuration, Refusal>
+        ensures { answer_of result ≡ new_duration (duration years months weeks days) }
     {
-        if !are_valid(years, months, weeks, days) {
-            return DurationResult::Refused(refusal::DURATION);
-        }
-        DurationResult::Duration(DateDuration {
+        let made = DateDuration {
             years,
             months,
             weeks,
             days,
-        })
+        };
+        made.checked()
     }
 
-    // Which way a valid duration points, 0 where every part is 0; 8 where it is not valid.
-    pub fn sign(self) -> SignResult
-        ensures { of_sign result ≡ duration_sign self }
+    // Which way a valid duration points, that of the first part that is not 0; 8 where it is not valid.
+    #[tactic(auto, using(crate::proofs::Durations::sign_laws), unfolding(crate::specs::Paper::duration_sign))]
+    pub fn sign(self) -> Result<Sign, Refusal>
+        ensures { answer_of result ≡ duration_sign self }
     {
-        if !self.is_valid() {
-            return SignResult::Refused(refusal::DURATION);
-        }
-        SignResult::Sign(first_sign(self.years, self.months, self.weeks, self.days))
+        let valid = self.checked()?;
+        let order = valid
+            .years
+            .cmp(&0)
+            .then(valid.months.cmp(&0))
+            .then(valid.weeks.cmp(&0))
+            .then(valid.days.cmp(&0));
+        Ok(Sign::from(order))
     }
 
     // A valid duration with each part as its size; 8 where it is not valid.
-    pub fn abs(self) -> DurationResult
-        ensures { of_duration result ≡ duration_abs self }
+    #[tactic(auto, using(crate::proofs::Durations::abs_laws), unfolding(crate::specs::Paper::duration_abs))]
+    pub fn abs(self) -> Result<DateDuration, Refusal>
+        ensures { answer_of result ≡ duration_abs self }
     {
-        if !self.is_valid() {
-            return DurationResult::Refused(refusal::DURATION);
-        }
-        DurationResult::Duration(DateDuration {
-            years: size(self.years),
-            months: size(self.months),
-            weeks: size(self.weeks),
-            days: size(self.days),
+        let valid = self.checked()?;
+        Ok(DateDuration {
+            years: valid.years.abs(),
+            months: valid.months.abs(),
+            weeks: valid.weeks.abs(),
+            days: valid.days.abs(),
         })
     }
 
     // A valid duration turned the other way, each part; 8 where it is not valid.
-    pub fn negated(self) -> DurationResult
-        ensures { of_duration result ≡ duration_negated self }
+    #[tactic(auto, using(crate::proofs::Durations::unchecked), unfolding(crate::specs::Paper::duration_negated))]
+    pub fn negated(self) -> Result<DateDuration, Refusal>
+        ensures { answer_of result ≡ duration_negated self }
     {
-        if !self.is_valid() {
-            return DurationResult::Refused(refusal::DURATION);
-        }
-        DurationResult::Duration(DateDuration {
-            years: -self.years,
-            months: -self.months,
-            weeks: -self.weeks,
-            days: -self.days,
+        let valid = self.checked()?;
+        Ok(DateDuration {
+            years: -valid.years,
+            months: -valid.months,
+            weeks: -valid.weeks,
+            days: -valid.days,
         })
     }
 
     // The days given, weeks and months given or kept, the years kept: 8 where the duration, or what comes out, is not valid.
-    pub fn adjust(self, days: i64, weeks: Part, months: Part) -> DurationResult
-        ensures { of_duration result ≡ duration_adjust self days weeks months }
+    #[tactic(auto, using(crate::proofs::Durations::unchecked), unfolding(crate::specs::Paper::duration_adjust))]
+    pub fn adjust(
+        self,
+        days: i64,
+        weeks: Option<i64>,
+        months: Option<i64>,
+    ) -> Result<DateDuration, Refusal>
+        ensures { answer_of result ≡ duration_adjust self days weeks months }
     {
-        if !self.is_valid() {
-            return DurationResult::Refused(refusal::DURATION);
-        }
+        let valid = self.checked()?;
         DateDuration::new(
-            self.years,
-            kept_or(months, self.months),
-            kept_or(weeks, self.weeks),
+            valid.years,
+            months.unwrap_or(valid.months),
+            weeks.unwrap_or(valid.weeks),
             days,
         )
     }

@@ -1,16 +1,13 @@
 -- The texts of dates and times: which form a year takes, and how long they are.
 use Prim.Native.Nat.{ℕ, ◌+◌}
 use native.Mathlib.Omega.{arith}
-use mathlib.Core.Path.{◌≡◌, refl, ap, ◌∙◌}
-use mathlib.Core.Bool.{Bool, true, false, cond, ◌||◌}
+use mathlib.Core.Path.{◌≡◌}
+use mathlib.Core.Bool.{Bool, ◌&&◌, true, false, cond}
 use mathlib.Core.List.{◌∷◌}
-use borrow.Author.Tests.{eq-eqb, ne_eqb}
-use lib.Dec.{eqb}
-use lib.IntN.{ℤ, pos, neg_ℤ, nat_abs}
+use lib.IntN.{ℤ, pos, nat_abs}
 use lib.Signed.{le_z, lt_z}
 use lib.ListN.{length, length-append}
-use Rattle.whole.proofs.Laws.{ints, size_neg}
-use Rattle.whole.proofs.Tests.{neither}
+use Rattle.whole.proofs.Laws.{ints}
 use Rattle.forms.specs.Forms.{padded, pointed, fraction_text}
 use Rattle.forms.specs.declared.Trimmed.{Trimmed}
 use Rattle.forms.proofs.Padded.{padded_length}
@@ -40,23 +37,13 @@ short_year y low high =
     let f : le_z y (pos 9999) ≡ true = omega (arith, ints) in
     rw (e, f)
 
-pub size_minus : (y : ℤ) (n : ℕ) → y ≡ neg_ℤ (pos n) → nat_abs y ≡ n
-size_minus y n e = ap nat_abs e ∙ size_neg n
-
-pub long_length : (y : ℤ) → (lt_z y (pos 0) || lt_z (pos 9999) y) ≡ true → length (year_text y) ≡ 7
-long_length y e = by_sign (lt_z y (pos 0)) refl
+pub year_length : (y : ℤ) → length (year_text y) ≡ cond (le_z (pos 0) y && le_z y (pos 9999)) 4 7
+unfolding year_text
+year_length y = by_test (le_z (pos 0) y && le_z y (pos 9999)) (cond (lt_z y (pos 0)) hyphen plus)
   where
-    six : (b : ℕ) → length (b ∷ padded 6 (nat_abs y)) ≡ 7
-    six b = omega (arith, padded_length 6 (nat_abs y))
-
-    by_sign : (q : Bool) → lt_z y (pos 0) ≡ q → length (year_text y) ≡ 7
-    by_sign true low = ap length (minus_year y low) ∙ six hyphen
-    by_sign false low = ap length (plus_year y low (rw low at e)) ∙ six plus
-
-pub short_length : (y : ℤ) → (lt_z y (pos 0) || lt_z (pos 9999) y) ≡ false → length (year_text y) ≡ 4
-short_length y e =
-    let n = neither (lt_z y (pos 0)) (lt_z (pos 9999) y) e in
-    ap length (short_year y n.0 n.1) ∙ padded_length 4 (nat_abs y)
+    by_test : (t : Bool) (sign : ℕ) → length (cond t (padded 4 (nat_abs y)) (sign ∷ padded 6 (nat_abs y))) ≡ cond t 4 7
+    by_test true sign = padded_length 4 (nat_abs y)
+    by_test false sign = omega (arith, padded_length 6 (nat_abs y))
 
 -- ---- dates
 
@@ -76,10 +63,3 @@ some_length f some =
 pub time_length_is : (t : IsoTime) → length (time_text t) ≡ 8 + length (fraction_text (billionths_of t))
 unfolding time_text
 time_length_is t = simp (length-append, padded_length) (omega arith)
-
--- the seconds as they are read
-pub sixty : (s r : ℕ) → s ≡ 60 → r ≡ 59 → r ≡ cond (eqb s 60) 59 s
-sixty s r e f = rw (eq-eqb s 60 e) f
-
-pub not_sixty : (s r : ℕ) → (s ≡ 60 → ⊥) → r ≡ s → r ≡ cond (eqb s 60) 59 s
-not_sixty s r e f = rw (ne_eqb s 60 e) f

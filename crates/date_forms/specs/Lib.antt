@@ -1,4 +1,3 @@
 pub mod Grammar
 pub mod Texts
-pub mod Pieces
 pub mod Claims

@@ -30,7 +30,6 @@ use Rattle.date_math.proofs.Rest.{rest_between, distance_of}
 use Rattle.date_math.proofs.Most.{size_directed}
 use Rattle.date_math.proofs.Until.{years_near, sign_is, no_sign, months_within, difference_is}
 use Rattle.date_math.proofs.Sums.{fine, fine_limits}
-use Rattle.date_math.proofs.Steps.{few_tries}
 use Rattle.date_math.proofs.Tries.{tries_found, none_below, with_tries}
 use Rattle.date_math.proofs.Theorems.{in_some_direction, no_other, demand_3}
 
@@ -39,7 +38,6 @@ use Rattle.date_math.proofs.Theorems.{in_some_direction, no_other, demand_3}
 -- the years tried, where the dates are so many years apart and so many of them were taken
 years_by_rule : (gap years : ℕ) → (384 * years < gap + 384) × (gap < 384 * (years + 1)) →
     year_tries_in gap years ≡ cond (not (eqb years 0) && eqb (gap / 384) years) 3 2
-unfolding year_tries_in
 years_by_rule gap years near = go (eqb years 0) refl (eqb (gap / 384) years) refl
   where
     go : (s : Bool) → eqb years 0 ≡ s → (t : Bool) → eqb (gap / 384) years ≡ t → gap / 384 + 2 - (years - 1) ≡ cond (not s && t) 3 2
@@ -89,7 +87,7 @@ module _ (one two : IsoDate) (v : is_valid_iso_date one ≡ true) (w : is_valid_
     few unit = rw (tries_found forward one two v w gap far unit) (go (counts_months unit && ltb 0 gap))
       where
         go : (t : Bool) → cond t (year_tries_in gap (years_apart one two) + ((gap - 384 * (gap / 384)) / 32 + 1)) 0 ≤ 15
-        go true = omega (arith, few_tries gap (years_apart one two) near)
+        go true = omega (arith, near)
         go false = omega arith
 
     -- no gap, no difference

@@ -2,7 +2,6 @@ pub mod Counts
 pub mod Kept
 pub mod Most
 pub mod Order
-pub mod Pinned
 pub mod Places
 pub mod Rest
 pub mod Sums

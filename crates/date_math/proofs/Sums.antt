@@ -6,7 +6,7 @@ use mathlib.Core.Bool.{Bool, true, false, cond}
 use borrow.Author.Tests.{le-leb, lt-leb}
 use lib.IntN.{ℤ, pos, neg_ℤ, ◌+ℤ◌, ◌*ℤ◌}
 use lib.Signed.{lt_z, ◌≤ℤ◌}
-use Rattle.refusal.specs.Answer.{given, refused, check}
+use Rattle.refusal.specs.Answer.{Answer, given, refused, check}
 use Rattle.refusal.proofs.Answers.{given_inj, never}
 use Rattle.whole.specs.Whole.{fdiv}
 use Rattle.whole.proofs.Laws.{ints, read_add}
@@ -16,11 +16,12 @@ use Rattle.iso_date.specs.Proposal.{iso_date_within_limits, constrain_iso_date}
 use Rattle.iso_date.specs.Paper.{balanced, date_limits, regulate_date, make_date, day_to_date}
 use Rattle.iso_date.specs.declared.IsoDate.{IsoDate}
 use Rattle.iso_date.proofs.Dates.{read_valid, day_in_year, in_year, there_and_back, back_and_there}
-use Rattle.iso_date.proofs.Answers.{in_range}
+use Rattle.iso_date.proofs.Answers.{in_range, make_refused, make_out, make_within}
 use Rattle.iso_date.proofs.Theorems.{limits_are}
 use Rattle.iso_date.proofs.Years.{year_length}
 use Rattle.date_duration.specs.Proposal.{is_valid_duration}
 use Rattle.date_duration.specs.declared.DateDuration.{DateDuration}
+use Rattle.date_duration.proofs.Durations.{bounded}
 use Rattle.options.specs.declared.Overflow.{Overflow}
 use Rattle.options.specs.declared.Overflow.TheVariants.{Constrain}
 use Rattle.options.specs.declared.Unit.{Unit as TemporalUnit}
@@ -131,6 +132,11 @@ module _ (d : IsoDate) (t : DateDuration) (overflow : Overflow) where
   abbrev moved : IsoDate
   moved = clamped_year (moved_by d t.years t.months)
 
+  -- the date on the way, by the years and months as the code has them
+  pub on_the_way : (x : Answer IsoDate) (y m : ℤ) → y ≡ t.years → m ≡ t.months → x ≡ regulate_date (clamped_year (moved_by d y m)) overflow →
+      x ≡ regulate_date moved overflow
+  on_the_way x y m e f g = rw (e, f) at g
+
   pub sum_date : (n : ℕ) → refused n ≡ date_limits d → refused n ≡ date_sum d t overflow
   unfolding date_sum
   sum_date n e = rw (← e)
@@ -157,21 +163,15 @@ module _ (one two : IsoDate) (unit : TemporalUnit) where
   unfolding date_difference
   difference_second n e f = rw (← e, ← f)
 
-  pub difference_unit : (rank : ℕ) → given tt ≡ date_limits one → given tt ≡ date_limits two → rank ≡ unit_rank unit → 3 < rank →
-      refused 5 ≡ date_difference one two unit
+  pub difference_unit : given tt ≡ date_limits one → given tt ≡ date_limits two → 3 < unit_rank unit → refused 5 ≡ date_difference one two unit
   unfolding date_difference
-  difference_unit rank e f g h = rw (← e, ← f, lt-leb (unit_rank unit) 3 (omega arith))
+  difference_unit e f h = rw (← e, ← f, lt-leb (unit_rank unit) 3 (omega arith))
 
-  pub difference_given : (rank : ℕ) (r : DateDifference) → given tt ≡ date_limits one → given tt ≡ date_limits two → rank ≡ unit_rank unit → rank ≤ 3 →
-      r ≡ difference_of_dates one two unit → given r ≡ date_difference one two unit
+  pub difference_given : (r : DateDifference) (a b : IsoDate) → a ≡ one → b ≡ two → given tt ≡ date_limits one → given tt ≡ date_limits two →
+      unit_rank unit ≤ 3 → r ≡ difference_of_dates a b unit → given r ≡ date_difference one two unit
   unfolding date_difference
-  difference_given rank r e f g h k = rw (← e, ← f, le-leb (unit_rank unit) 3 (omega arith), k)
+  difference_given r a b i j e f h k = rw (← e, ← f, le-leb (unit_rank unit) 3 (omega arith), k, i, j)
 
--- the limit test that passes tells that the fields are valid
-pub limits_valid : (d : IsoDate) → given tt ≡ date_limits d → is_valid_iso_date d ≡ true
-unfolding date_limits
-limits_valid d e = go (is_valid_iso_date d) refl
-  where
-    go : (t : Bool) → is_valid_iso_date d ≡ t → is_valid_iso_date d ≡ true
-    go true h = h
-    go false h = never {A = Unit {0}} tt 1 (sym (e ∙ (rw h)))
+pub ruleset sum_ways = (sum_date, sum_duration, sum_refused, sum_is, make_refused, make_out, make_within, bounded)
+
+pub ruleset difference_ways = (difference_first, difference_second, difference_unit, difference_given)

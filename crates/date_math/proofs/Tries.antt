@@ -7,7 +7,6 @@ use lib.Dec.{ltb, leb}
 use lib.IntN.{◌+ℤ◌}
 use Rattle.whole.specs.Whole.{apart, ◌⊖◌}
 use Rattle.iso_date.specs.Proposal.{is_valid_iso_date}
-use Rattle.iso_date.specs.Inner.{year_bias}
 use Rattle.iso_date.specs.declared.IsoDate.{IsoDate}
 use Rattle.date_duration.specs.declared.DateDuration.{DateDuration}
 use Rattle.options.specs.declared.Unit.{Unit as TemporalUnit}
@@ -16,13 +15,12 @@ use Rattle.date_math.specs.Tries.{years_apart, year_tries, month_tries, tries_un
 use Rattle.date_math.specs.declared.DateDifference.{DateDifference}
 use Rattle.date_math.specs.Inner.{place_of, place_bias, year_tries_in, tries_in}
 use Rattle.date_math.proofs.Kept.{tries_are}
-use Rattle.date_math.proofs.Rest.{distance_is}
 use Rattle.date_math.proofs.Until.{years_near, years_pass, months_pass, years_are, chosen, far_of}
 
 module _ (forward : Bool) (one two : IsoDate) (v : is_valid_iso_date one ≡ true) (w : is_valid_iso_date two ≡ true) (gap : ℕ)
     (far : place_of two ≡ place_of one +ℤ directed forward gap) where
   year_tries_lem : year_tries forward one two ≡ year_tries_in gap (years_apart one two)
-  unfolding year_tries year_tries_in
+  unfolding year_tries
   year_tries_lem =
       let near = years_near forward one two v w gap far in
       tries_are (λ k. iso_date_surpasses forward (in_years one (directed forward k)) two) 384 gap (years_pass forward one two v w gap far) (omega arith)
@@ -66,16 +64,13 @@ both d n = record { duration = d; tries = n }
 pub with_tries : (d e : DateDuration) (n k : ℕ) → d ≡ e → n ≡ k → both d n ≡ both e k
 with_tries d e n k p q = rw (p, q)
 
-module _ (one two : IsoDate) (v : is_valid_iso_date one ≡ true) (w : is_valid_iso_date two ≡ true) (a b y z : ℕ)
-    (from : place_of one ≡ a ⊖ place_bias) (to : place_of two ≡ b ⊖ place_bias) (first : one.year ≡ y ⊖ year_bias) (second : two.year ≡ z ⊖ year_bias) where
+module _ (one two : IsoDate) (v : is_valid_iso_date one ≡ true) (w : is_valid_iso_date two ≡ true) (a b : ℕ)
+    (from : place_of one ≡ a ⊖ place_bias) (to : place_of two ≡ b ⊖ place_bias) where
   far : place_of two ≡ place_of one +ℤ directed (leb a b) (apart a b)
   far = far_of a b place_bias (place_of one) (place_of two) from to
 
-  apart_is : years_apart one two ≡ apart y z
-  apart_is = distance_is (leb y z) one.year two.year (apart y z) (far_of y z year_bias one.year two.year first second)
+  pub gap_near : (384 * years_apart one two < apart a b + 384) × (apart a b < 384 * (years_apart one two + 1))
+  gap_near = years_near (leb a b) one two v w (apart a b) far
 
-  pub gap_near : (384 * apart y z < apart a b + 384) × (apart a b < 384 * (apart y z + 1))
-  gap_near = rw apart_is at (years_near (leb a b) one two v w (apart a b) far)
-
-  pub tries_put : (unit : TemporalUnit) → tries_in unit (apart a b) (apart y z) ≡ calendar_date_tries one two unit
-  tries_put unit = rw (← apart_is) (sym (tries_found (leb a b) one two v w (apart a b) far unit))
+  pub tries_put : (unit : TemporalUnit) → tries_in unit (apart a b) (years_apart one two) ≡ calendar_date_tries one two unit
+  tries_put unit = sym (tries_found (leb a b) one two v w (apart a b) far unit)

@@ -24,7 +24,7 @@ weeks_in unit rest = cond (counts_weeks unit) (rest / 7) 0
 
 -- how many candidates are tried to find years and months, between dates so many years apart: of the years from `apart - 1` to the first
 -- that passes, `gap / 384 + 1`, both counted; of the months from 1
-unfoldable pub year_tries_in : ℕ → ℕ → ℕ
+abbrev pub year_tries_in : ℕ → ℕ → ℕ
 year_tries_in gap apart = gap / 384 + 2 - (apart - 1)
 
 unfoldable pub tries_in : TemporalUnit → ℕ → ℕ → ℕ

@@ -1,6 +1,6 @@
 -- What the sum and the difference of dates answer, for every input: the checks in their order with their numbers, then the steps.
 use Rattle.std.specs.Prelude.{◌^◌, ◌-◌, Bool, leb, pos, neg_ℤ, ◌+ℤ◌, ◌*ℤ◌}
-use Rattle.refusal.specs.Answer.{Answer, given, refused, check, and_then}
+use Rattle.refusal.specs.Answer.{Answer, given, check, and_then}
 use Rattle.whole.specs.Whole.{clamp_z}
 use Rattle.iso_date.specs.Proposal.{date, epoch_days}
 use Rattle.iso_date.specs.Paper.{date_limits, make_date, day_to_date}
@@ -13,8 +13,6 @@ use Rattle.options.specs.Units.{unit_rank}
 use Rattle.date_math.specs.Proposal.{moved_by, calendar_date_until}
 use Rattle.date_math.specs.Tries.{calendar_date_tries}
 use Rattle.date_math.specs.declared.DateDifference.{DateDifference}
-use Rattle.date_math.specs.declared.DateDifferenceResult.{DateDifferenceResult}
-use Rattle.date_math.specs.declared.DateDifferenceResult.TheVariants as R
 
 -- ---- the sum
 
@@ -41,11 +39,6 @@ is_date_unit unit = leb (unit_rank unit) 3
 -- the duration, and beside it how many candidates were tried
 abbrev pub difference_of_dates : IsoDate → IsoDate → TemporalUnit → DateDifference
 difference_of_dates one two unit = record { duration = calendar_date_until one two unit; tries = calendar_date_tries one two unit }
-
--- the enum's cases as number and values
-abbrev pub of_date_difference : DateDifferenceResult → Answer DateDifference
-of_date_difference (R.Difference d) = given d
-of_date_difference (R.Refused n) = refused n
 
 unfoldable pub date_difference : IsoDate → IsoDate → TemporalUnit → Answer DateDifference
 date_difference one two unit =

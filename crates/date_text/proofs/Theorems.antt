@@ -303,8 +303,8 @@ date_time_is_of_one_kind text r e =
     through (marked capital_t time_form t) _ g (λ c rest h i.
     (rw (f, (marked_only capital_t time_form t c rest h).1.0), rw (date_is_no_time text d t f))))
 
--- ---- one text, one reading: `*-has-one-reading` holds since a reader is a function; what has content is `*-by-its-text` and, above,
--- `*-is-of-one-kind`
+-- ---- one text, one reading: `date_has_one_reading` and its like hold since a reader is a function; what has content is
+-- `date_by_its_text` and its like and, above, `date_is_of_one_kind`
 
 -- a text is read as one date at most
 pub date_has_one_reading : (text : List ℕ) (a b : IsoDate) → read_date text ≡ given a → read_date text ≡ given b → a ≡ b

@@ -12,8 +12,6 @@ use Rattle.iso_time.specs.declared.IsoTime.{IsoTime}
 use Rattle.iso_date_time.specs.Proposal.{date_time}
 use Rattle.iso_date_time.specs.Paper.{date_time_limits}
 use Rattle.iso_date_time.specs.declared.IsoDateTime.{IsoDateTime}
-use Rattle.date_text.specs.declared.LengthResult.{LengthResult}
-use Rattle.date_text.specs.declared.LengthResult.TheVariants as L
 
 -- ---- a date with a time: a date, a capital T, a time
 
@@ -70,7 +68,3 @@ length_of (refused n) = refused n
 abbrev pub afterwards : List ℕ → Answer (List ℕ) → List ℕ
 afterwards before (given text) = text ++ drop (length text) before
 afterwards before (refused n) = before
-
-abbrev pub of_length : LengthResult → Answer ℕ
-of_length (L.Length n) = given n
-of_length (L.Refused n) = refused n

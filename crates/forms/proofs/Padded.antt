@@ -2,7 +2,7 @@
 use Prim.Native.Nat.{ℕ, zero, suc, ◌+◌, ◌-◌, ◌*◌, ◌/◌, ◌%◌, ◌^◌, ◌≤◌, ◌<◌}
 use native.Mathlib.Omega.{arith}
 use native.Mathlib.Nat.{pow-suc}
-use mathlib.Core.Path.{◌≡◌, refl, ap, ◌∙◌}
+use mathlib.Core.Path.{◌≡◌, refl, sym, ap, ◌∙◌}
 use mathlib.Core.Bool.{Bool, true, false}
 use mathlib.Core.List.{List, [], ◌∷◌, ◌++◌, append_assoc}
 use borrow.Author.Tests.{le-leb, leb-true}
@@ -10,7 +10,8 @@ use lib.Dec.{leb}
 use lib.ListN.{length, set, length-append}
 use Rattle.whole.proofs.Tests.{both}
 use Rattle.lines.specs.Text.{digit_zero, is_digit}
-use Rattle.writing.proofs.Writing.{placed, placed_none, put_last}
+use Rattle.writing.specs.Wrote.{Wrote}
+use Rattle.writing.proofs.Writing.{placed, placed_none, placed_wrote, put_last}
 use Rattle.forms.specs.Forms.{Parsed, took, nothing, digit, digits, padded}
 
 pub padded_length : (n v : ℕ) → length (padded n v) ≡ n
@@ -30,9 +31,12 @@ put_digit l at v (suc i) some inside =
     ap (λ (k : ℕ). placed l at (padded k (v / 10) ++ ((digit_zero + v % 10) ∷ []))) e
 
 -- no digit is left
-pub put_all : (l : List ℕ) (at v i : ℕ) → i ≡ 0 → placed l at (padded i v) ≡ l
+pub all_put : (l l' : List ℕ) (at n v i left : ℕ) → i ≡ 0 → at + n ≤ length l → placed l' at (padded i left) ≡ placed l at (padded n v) →
+    Wrote l at (padded n v) l' (at + n)
 unfolding padded
-put_all l at v i e = rw e (placed_none l at)
+all_put l l' at n v i left none room all =
+    let long = padded_length n v in
+    placed_wrote l l' at (padded n v) (at + n) (omega (arith, long)) (sym (placed_none l' at) ∙ rw none at all) (ap (λ (k : ℕ). at + k) (sym long))
 
 -- ---- read back
 

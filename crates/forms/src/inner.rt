@@ -1,117 +1,94 @@
-// Pieces of a text, read from a place of it on or written there: digits, a byte with digits behind it, a fraction.
+// Pieces of a text, read off its front or written at a place of it: digits, a byte with digits behind it, a fraction.
 // Nothing of calendars.
-ghost use Rattle.std.specs.Prelude.{◌≡◌, ◌∷◌, ◌+◌, ◌^◌, ◌≤◌, ◌<◌, length, drop};
+//
+// A writer is handed a place with the slice, for the reason that `writing::inner` gives.
+ghost use Rattle.std.specs.Prelude.{◌≡◌, ◌∷◌, ◌+◌, ◌^◌, ◌≤◌, ◌<◌, length, IfSome};
+ghost use Rattle.std.specs.Char.{is_ascii_digit};
+ghost use Rattle.std.specs.List.{prefix_len};
 ghost use Rattle.writing.specs.Wrote.{Wrote};
-ghost use Rattle.forms.specs.Forms.{then_read, marked, digits, padded, run, filled, fraction, pointed};
-ghost use Rattle.forms.specs.Pieces.{Reads, Trims, filled_piece};
+ghost use Rattle.forms.specs.Forms.{then_read, marked, digit, digits, padded, run, filled, fraction, pointed};
+ghost use Rattle.forms.specs.Pieces.{of_read, Trims};
 
-use crate::{Piece, Trimmed};
+use crate::Trimmed;
 use writing::inner::put_byte;
 
-// How many billionths the last of n digits of a fraction counts: 10 to the power of the digits that are missing from nine.
-const PLACES: [u64; 10] = [
-    1_000_000_000,
-    100_000_000,
-    10_000_000,
-    1_000_000,
-    100_000,
-    10_000,
-    1_000,
-    100,
-    10,
-    1,
-];
-
 // n digits, as the number that they say. 64 bits hold any number of 18.
-pub fn read_digits(text: &[u8], at: usize, n: usize) -> Piece
-    requires { (at ≤ length text.now) × (n ≤ 18) }
-    ensures { Reads text.now (digits n (drop at text.now)) (10 ^ n) result }
+#[tactic(auto, using(crate::proofs::Digits::no_digit, crate::proofs::Digits::next_digit, crate::proofs::Digits::grows), unfolding(crate::specs::Forms::digits))]
+pub fn read_digits(text: &[u8], n: usize) -> Option<(u64, &[u8])>
+    requires { n ≤ 18 }
+    ensures takes { of_read result ≡ digits n text.now }
+    ensures small { IfSome result (λ p. p.0 < 10 ^ n) }
 {
-    let mut value: u64 = 0;
-    let mut i = 0;
-    while i < n {
-        if at + i == text.len() {
-            return Piece::Not;
-        }
-        let b = text[at + i];
-        if (b < b'0') | (b'9' < b) {
-            return Piece::Not;
-        }
-        value = 10 * value + (b - b'0') as u64;
-        i += 1;
+    let mut value = 0;
+    let mut rest = text;
+    for _ in 0..n {
+        let (digit, after) = read_digit(rest)?;
+        value = 10 * value + digit;
+        rest = after;
     }
-    Piece::Is(value, at + n)
+    Some((value, rest))
+}
+
+#[tactic(auto, unfolding(crate::specs::Forms::digit))]
+fn read_digit(text: &[u8]) -> Option<(u64, &[u8])>
+    ensures takes { of_read result ≡ digit text.now }
+    ensures small { IfSome result (λ p. p.0 < 10) }
+{
+    let (b, rest) = text.split_first()?;
+    if !b.is_ascii_digit() {
+        return None;
+    }
+    Some(((*b - b'0') as u64, rest))
 }
 
 // A byte, and n digits behind it.
-pub fn read_marked(text: &[u8], at: usize, mark: u8, n: usize) -> Piece
-    requires { (at ≤ length text.now) × (n ≤ 18) }
-    ensures { Reads text.now (marked mark (digits n) (drop at text.now)) (10 ^ n) result }
+#[tactic(auto, unfolding(crate::specs::Forms::marked))]
+pub fn read_marked(text: &[u8], mark: u8, n: usize) -> Option<(u64, &[u8])>
+    requires { n ≤ 18 }
+    ensures takes { of_read result ≡ marked mark (digits n) text.now }
+    ensures small { IfSome result (λ p. p.0 < 10 ^ n) }
 {
-    if at == text.len() {
-        return Piece::Not;
-    }
-    if text[at] != mark {
-        return Piece::Not;
-    }
-    read_digits(text, at + 1, n)
+    read_digits(text.strip_prefix(&[mark])?, n)
 }
 
 // A point and one to nine digits, as billionths.
-pub fn read_fraction(text: &[u8], at: usize) -> Piece
-    requires { at ≤ length text.now }
-    ensures { Reads text.now (fraction (drop at text.now)) (10 ^ 9) result }
+#[tactic(auto, unfolding(crate::specs::Forms::fraction, crate::specs::Forms::marked))]
+pub fn read_fraction(text: &[u8]) -> Option<(u64, &[u8])>
+    ensures takes { of_read result ≡ fraction text.now }
+    ensures small { IfSome result (λ p. p.0 < 10 ^ 9) }
 {
-    if at == text.len() {
-        return Piece::Not;
-    }
-    if text[at] != b'.' {
-        return Piece::Not;
-    }
-    billionths(text, at + 1)
+    billionths(text.strip_prefix(b".")?)
 }
 
 // All digits that stand there, as billionths, where there are one to nine.
-fn billionths(text: &[u8], at: usize) -> Piece
-    requires { at ≤ length text.now }
-    ensures { Reads text.now (then_read (run (drop at text.now)) filled) (10 ^ 9) result }
+#[tactic(auto, using(crate::proofs::Fractions::no_fraction, crate::proofs::Fractions::all_stand, crate::proofs::Fractions::all_filled, crate::proofs::Fractions::filled_small))]
+fn billionths(text: &[u8]) -> Option<(u64, &[u8])>
+    ensures takes { of_read result ≡ then_read (run text.now) filled }
+    ensures small { IfSome result (λ p. p.0 < 10 ^ 9) }
 {
-    let mut value: u64 = 0;
-    let mut i = 0;
-    while at + i < text.len() {
-        let b = text[at + i];
-        if (b < b'0') | (b'9' < b) {
-            return fill(value, i, at + i);
-        }
-        if i == 9 {
-            return Piece::Not;
-        }
-        value = 10 * value + (b - b'0') as u64;
-        i += 1;
+    let count = digit_count(text);
+    if count == 0 || 9 < count {
+        return None;
     }
-    fill(value, i, at + i)
+    let (value, rest) = read_digits(text, count)?;
+    Some((value * 10u64.pow(9 - count as u32), rest))
 }
 
-// So many digits with that value, as billionths.
-fn fill(value: u64, count: usize, end: usize) -> Piece
-    requires { (count ≤ 9) × (value < 10 ^ count) }
-    ensures { result ≡ filled_piece count value end }
+// How many digits a text begins with.
+fn digit_count(text: &[u8]) -> usize
+    ensures { result ≡ prefix_len is_ascii_digit text.now }
 {
-    if count == 0 {
-        return Piece::Not;
-    }
-    Piece::Is(value * PLACES[count], end)
+    text.iter().take_while(|b| b.is_ascii_digit()).count()
 }
 
 // Writes the last n digits of a number, from the last to the first.
+#[tactic(auto, using(crate::proofs::Padded::put_digit))]
 pub fn put_padded(out: &mut [u8], at: usize, n: usize, number: u64) -> usize
     requires { at + n ≤ length out.old }
     ensures { Wrote out.old at (padded n number) out.new result }
 {
     let mut left = number;
-    let mut i = n;
-    while 0 < i {
-        i -= 1;
+    for i in (0..n).rev() {
         out[at + i] = b'0' + (left % 10) as u8;
         left /= 10;
     }
@@ -128,30 +105,29 @@ pub fn put_marked(out: &mut [u8], at: usize, mark: u8, n: usize, number: u64) ->
 }
 
 // The nine digits of so many billionths, without the zeros at their end.
+#[tactic(auto, using(crate::proofs::Fractions::tenth, crate::proofs::Fractions::trim_more, crate::proofs::Fractions::trim_stops, crate::proofs::Fractions::trim_over))]
 pub fn trim(billionths: u64) -> Trimmed
     requires { billionths < 10 ^ 9 }
     ensures { Trims billionths result }
 {
     let mut value = billionths;
-    let mut count = 9;
-    while 0 < count {
+    for count in (1..=9).rev() {
         if value % 10 != 0 {
             return Trimmed { count, value };
         }
         value /= 10;
-        count -= 1;
     }
-    Trimmed { count, value }
+    Trimmed { count: 0, value }
 }
 
 // Writes a point and the digits of a fraction, or nothing where there are none.
+#[tactic(auto, using(crate::proofs::Padded::padded_length, crate::proofs::Fractions::pointed_none, crate::proofs::Fractions::pointed_some, writing::proofs::Writing::nothing))]
 pub fn put_fraction(out: &mut [u8], at: usize, f: Trimmed) -> usize
     requires { at + length (pointed (padded f.count f.value)) ≤ length out.old }
     ensures { Wrote out.old at (pointed (padded f.count f.value)) out.new result }
 {
-    let count = f.count;
-    if count == 0 {
+    if f.count == 0 {
         return at;
     }
-    put_marked(out, at, b'.', count, f.value)
+    put_marked(out, at, b'.', f.count, f.value)
 }

@@ -1,31 +1,31 @@
 -- How the answers of the rules come out of their checks, one law for each way through the code.
-use Prim.Native.Nat.{ℕ, ◌+◌, ◌-◌, ◌/◌, ◌%◌, ◌^◌, ◌≤◌, ◌<◌}
+use Prim.Native.Nat.{ℕ, min, max, ◌+◌, ◌-◌, ◌/◌, ◌%◌, ◌^◌, ◌≤◌, ◌<◌}
 use native.Mathlib.Omega.{arith}
 use mathlib.Core.Path.{◌≡◌, refl, sym, ◌∙◌, ap}
-use mathlib.Core.Bool.{Bool, true, false, ◌&&◌, ◌||◌}
-use borrow.Author.Tests.{le-leb, lt-leb, ltb-true, ltb-false}
-use lib.Dec.{leb, ltb}
+use mathlib.Core.Bool.{Bool, true, false, ◌&&◌}
+use mathlib.Core.Logic.{⊎_elim}
 use lib.ListN.{get_or}
-use lib.IntN.{ℤ, pos, neg_ℤ, nat_abs, ◌+ℤ◌, ◌-ℤ◌, ◌*ℤ◌, +ℤ_assoc}
+use lib.IntN.{ℤ, pos, negsuc, neg_ℤ, nat_abs, ◌+ℤ◌, ◌-ℤ◌, ◌*ℤ◌}
 use lib.Signed.{lt_z, le_z, ◌≤ℤ◌, ◌<ℤ◌}
 use mir.Syntax.{w64}
 use mir.Val.{SFits}
 use Rattle.options.specs.Units.{ns_per_day}
-use Rattle.refusal.specs.Answer.{given, refused, check}
+use Rattle.refusal.specs.Answer.{number_of, given, refused, check}
 use Rattle.refusal.proofs.Answers.{given_inj, never}
 use Rattle.whole.specs.Whole.{◌⊖◌, fmod, clamp_z}
-use Rattle.whole.proofs.Laws.{whole, ints, ⊖-same, size_of, range_of, read_add, read_diff, read_times}
-use Rattle.whole.proofs.Tests.{alike, both, one_of, neither, and_false}
+use Rattle.whole.proofs.Edges.{clamp_low, clamp_high, clamp_same}
+use Rattle.whole.proofs.Laws.{split, whole, ints, ⊖-same, size_of, range_of, read_add, read_diff, read_times}
+use Rattle.whole.proofs.Tests.{alike, both, and_false}
 use Rattle.iso_date.specs.Proposal.{date, leap_year, month_lengths, iso_days_in_month, day_from_month, iso_date_to_epoch_days, epoch_days}
-use Rattle.iso_date.specs.Proposal.{epoch_days_to_iso_date, is_valid_iso_date, balanced_year, constrain_iso_date, clamp_to, ns_within_limits}
+use Rattle.iso_date.specs.Proposal.{epoch_days_to_iso_date, is_valid_iso_date, balanced_year, balanced_month, constrain_iso_date, clamp_to, ns_within_limits}
 use Rattle.iso_date.specs.Proposal.{moment_within_limits, iso_date_within_limits, noon, ns_limit}
-use Rattle.iso_date.specs.Paper.{month_length, balanced, year_month, balance_year_month, date_to_day, day_to_date, regulate_date, make_date}
+use Rattle.iso_date.specs.Paper.{balanced, year_month, balance_year_month, date_to_day, day_to_date, regulate_date, make_date}
 use Rattle.iso_date.specs.Paper.{date_limits, balance_date}
 use Rattle.iso_date.specs.Inner.{year_bias, month_bias, day_bias, Balances}
 use Rattle.iso_date.specs.declared.IsoDate.{IsoDate}
 use Rattle.options.specs.declared.Overflow.{Overflow}
 use Rattle.options.specs.declared.Overflow.TheVariants.{Constrain, Reject}
-use Rattle.iso_date.proofs.Dates.{Valid, show_valid, plain_month}
+use Rattle.iso_date.proofs.Dates.{Valid, read_valid, show_valid, plain_month}
 use Rattle.iso_date.proofs.Tables.{length_least}
 
 -- ---- the year-month balance
@@ -39,6 +39,23 @@ balances u m a b c d =
       year_small = omega arith;
       index_small = omega arith;
     }
+
+-- the balance of a year and a month of 32 bits
+pub balance_is : (y m : ℤ) (u t year index : ℕ) → y ≡ u ⊖ year_bias → m ≡ t ⊖ month_bias → Balances u t year index →
+    (year ⊖ year_bias ≡ balanced_year y m) × (index + 1 ≡ balanced_month m)
+balance_is y m u t year index e f b = rw (e, f) (b.year_is, b.month_is)
+
+-- the way back to 32 bits is a clamp
+pub year_clamped : (u v : ℕ) (z : ℤ) → v ≡ max 5852516352 (min u 10147483647) → z ≡ v ⊖ year_bias →
+    z ≡ clamp_z (u ⊖ year_bias) (neg_ℤ (pos (2 ^ 31))) (pos (2 ^ 31 - 1))
+year_clamped u v z e f =
+    let d = read_diff u year_bias in
+    let g = read_diff v year_bias in
+    ⊎_elim (λ h. let k : z ≡ neg_ℤ (pos (2 ^ 31)) = omega (arith, ints) in k ∙ clamp_low _ _ _ (omega (arith, ints)))
+    (λ h. ⊎_elim (λ l. let k : z ≡ pos (2 ^ 31 - 1) = omega (arith, ints) in k ∙ clamp_high _ _ _ (omega (arith, ints)) (omega (arith, ints)))
+    (λ l. let k : z ≡ u ⊖ year_bias = omega (arith, ints) in k ∙ clamp_same _ _ _ (omega (arith, ints)) (omega (arith, ints)))
+    (split 10147483647 u))
+    (split u 5852516352)
 
 -- ---- the balanced range
 
@@ -104,42 +121,6 @@ noon_in n a b =
     let s = read_add (pos ns_per_day *ℤ n) (pos noon) in
     limits_in n noon (omega (arith, ints)) (omega (arith, ints))
 
--- ---- valid fields
-
-pub a_month : (m : ℕ) → (ltb m 1 || ltb 12 m) ≡ false → (1 ≤ m) × (m ≤ 12)
-a_month m e = let g = neither (ltb m 1) (ltb 12 m) e in (ltb-false m 1 g.0, ltb-false 12 m g.1)
-
-no_month : (m : ℕ) → (ltb m 1 || ltb 12 m) ≡ true → (leb 1 m && leb m 12) ≡ false
-no_month m e =
-    one_of (ltb m 1) (ltb 12 m) e (λ g. rw (lt-leb 1 m (ltb-true m 1 g))) (λ g. rw (lt-leb m 12 (ltb-true 12 m g)) (and_false (leb 1 m)))
-
-module _ (y : ℤ) (m d : ℕ) where
-  pub fields_bad : ((ltb m 1 || ltb 12 m) || ltb d 1) ≡ true → is_valid_iso_date (date y m d) ≡ false
-  unfolding is_valid_iso_date
-  fields_bad e =
-      one_of (ltb m 1 || ltb 12 m) (ltb d 1) e (λ f. rw (no_month m f))
-      (λ f. let h = ltb-true d 1 f in rw (lt-leb 1 d (omega arith)) (and_false (leb 1 m && leb m 12)))
-
-  pub in_year : ((ltb m 1 || ltb 12 m) || ltb d 1) ≡ false → (1 ≤ m) × (m ≤ 12)
-  in_year e = a_month m (neither (ltb m 1 || ltb 12 m) (ltb d 1) e).0
-
-  pub day_decides : ((ltb m 1 || ltb 12 m) || ltb d 1) ≡ false → leb d (iso_days_in_month y m) ≡ is_valid_iso_date (date y m d)
-  unfolding is_valid_iso_date
-  day_decides e =
-      let h = ltb-false d 1 (neither (ltb m 1 || ltb 12 m) (ltb d 1) e).1 in
-      simp (le-leb 1 m (in_year e).0, le-leb m 12 (in_year e).1, le-leb 1 d (omega arith))
-
--- ---- month lengths
-
-module _ (y : ℤ) (m : ℕ) where
-  pub length_refused : (ltb m 1 || ltb 12 m) ≡ true → refused 1 ≡ month_length y m
-  unfolding month_length
-  length_refused e = rw (no_month m e)
-
-  pub month_length_lem : (r : ℕ) → (ltb m 1 || ltb 12 m) ≡ false → r ≡ iso_days_in_month y m → given r ≡ month_length y m
-  unfolding month_length
-  month_length_lem r e f = let g = a_month m e in simp (le-leb 1 m g.0, le-leb m 12 g.1, f)
-
 -- ---- date to day, and day to date
 
 module _ (d : IsoDate) where
@@ -164,6 +145,11 @@ module _ (n : ℤ) where
   unfolding day_to_date
   date_given d e f = rw (e, f)
 
+-- a month has a day
+pub length_positive : (y : ℤ) (m : ℕ) → 1 ≤ m → m ≤ 12 → 1 ≤ iso_days_in_month y m
+unfolding iso_days_in_month
+length_positive y m a b = length_least (leap_year y) (m - 1) (omega arith)
+
 -- ---- regulating, the limits, making
 
 pub constrained_valid : (y : ℤ) (m d r s : ℕ) → r ≡ clamp_to 12 m → 1 ≤ r → r ≤ 12 → s ≡ clamp_to (iso_days_in_month y r) d → 1 ≤ s → s ≤ iso_days_in_month y r →
@@ -172,19 +158,15 @@ unfolding constrain_iso_date
 constrained_valid y m d r s e a b f g h =
     (rw (f, e), show_valid y r s (record { month_low = a; month_high = b; day_low = g; day_high = h }))
 
+-- the same where the code clamps
+pub constrained_is : (y : ℤ) (m d r l s : ℕ) → r ≡ max 1 (min m 12) → l ≡ iso_days_in_month y r → s ≡ max 1 (min d l) →
+    (date y r s ≡ constrain_iso_date (date y m d)) × (is_valid_iso_date (date y r s) ≡ true)
+constrained_is y m d r l s e f g =
+    let some : 1 ≤ l = rw f (length_positive y r (omega arith) (omega arith)) in
+    let b : s ≡ clamp_to l d = omega arith in
+    constrained_valid y m d r s (omega arith) (omega arith) (omega arith) (rw f at b) (omega arith) (rw (← f) (omega arith))
+
 module _ (d : IsoDate) where
-  pub regulate_constrain : (o : Overflow) → o ≡ Constrain → given (constrain_iso_date d) ≡ regulate_date d o
-  unfolding regulate_date
-  regulate_constrain o e = rw e
-
-  pub regulate_good : (o : Overflow) → o ≡ Reject → is_valid_iso_date d ≡ true → given d ≡ regulate_date d o
-  unfolding regulate_date
-  regulate_good o e f = rw (e, f)
-
-  pub regulate_bad : (o : Overflow) → o ≡ Reject → is_valid_iso_date d ≡ false → refused 1 ≡ regulate_date d o
-  unfolding regulate_date
-  regulate_bad o e f = rw (e, f)
-
   pub limits_bad : is_valid_iso_date d ≡ false → refused 1 ≡ date_limits d
   unfolding date_limits
   limits_bad e = rw e
@@ -204,6 +186,14 @@ pub length_of_year : (y : ℤ) (u m r : ℕ) (leap : Bool) → y ≡ u ⊖ year_
 unfolding iso_days_in_month
 length_of_year y u m r leap e f g = rw (e, ← f, g)
 
+pub length_of_month : (y : ℤ) (u m i r : ℕ) → y ≡ u ⊖ year_bias → i + 1 ≡ m → 1 ≤ m → m ≤ 12 →
+    r ≡ get_or (month_lengths (leap_year (u ⊖ year_bias))) i 0 → (r ≡ iso_days_in_month y m) × (1 ≤ r)
+unfolding iso_days_in_month
+length_of_month y u m i r e f a b g =
+    let k : m - 1 ≡ i = omega arith in
+    let h : i < 12 = omega arith in
+    (rw (e, k) g, rw g (length_least (leap_year (u ⊖ year_bias)) i h))
+
 -- the day number of a valid date, from the natural of the first day of its month
 pub day_of_date : (y : ℤ) (m d u n : ℕ) → Valid y m d → y ≡ u ⊖ year_bias → n ⊖ day_bias ≡ day_from_month (u ⊖ year_bias) (m - 1) →
     epoch_days (date y m d) ≡ (n + d - 1) ⊖ day_bias
@@ -214,8 +204,17 @@ day_of_date y m d u n v e f =
     go : day_from_month y (m - 1) +ℤ pos d -ℤ pos 1 ≡ (n + d + 0) ⊖ (day_bias + 0 + 1)
     go = rw (e, ← f) (simp whole (omega arith))
 
+-- the same where the code puts a valid date's fields together
+pub day_of_valid : (d : IsoDate) (u n : ℕ) → is_valid_iso_date d ≡ true → d.year ≡ u ⊖ year_bias →
+    n ⊖ day_bias ≡ day_from_month (u ⊖ year_bias) (d.month - 1) → epoch_days d ≡ (n + d.day - 1) ⊖ day_bias
+day_of_valid d u n v e f = day_of_date d.year d.month d.day u n (read_valid d.year d.month d.day v) e f
+
 pub lowered_small : (z : ℤ) (n k : ℕ) → z ≡ n ⊖ day_bias → n < k → day_bias < k → nat_abs z < k
 lowered_small z n k e h l = omega (arith, ints, size_of z, range_of z, read_diff n day_bias)
+
+pub lowered_day : (d : IsoDate) (z : ℤ) (n : ℕ) → epoch_days d ≡ n ⊖ day_bias → n < 2 ^ 51 → z ≡ n ⊖ day_bias →
+    (z ≡ epoch_days d) × (nat_abs z < 2 ^ 51)
+lowered_day d z n e h f = (f ∙ sym e, lowered_small z n (2 ^ 51) f h (omega arith))
 
 -- a day number below 2^51 has room for weeks and days
 module _ (weeks days : ℤ) (few : (nat_abs weeks < 2 ^ 32) × (nat_abs days < 2 ^ 38)) where
@@ -242,60 +241,55 @@ module _ (weeks days : ℤ) (few : (nat_abs weeks < 2 ^ 32) × (nat_abs days < 2
       )
 
 -- the first day of a month of any number, from the code's naturals
-pub month_first_is : (y m first : ℤ) (u t year index n : ℕ) → y ≡ u ⊖ year_bias → m ≡ t ⊖ month_bias → Balances u t year index →
-    n ⊖ day_bias ≡ day_from_month (year ⊖ year_bias) index → first ≡ n ⊖ day_bias → first ≡ day_from_month (balanced_year y m) (fmod (m -ℤ pos 1) 12)
-month_first_is y m first u t year index n e f b g h =
-    let i : fmod (m -ℤ pos 1) 12 ≡ index = omega (arith, rw (sym f) at b.month_is) in
-    let j : balanced_year y m ≡ year ⊖ year_bias = rw (e, f) (sym b.year_is) in
-    rw (j, i) (h ∙ g)
+pub first_is : (y m first : ℤ) (year index n : ℕ) → year ⊖ year_bias ≡ balanced_year y m → index + 1 ≡ balanced_month m →
+    n ⊖ day_bias ≡ day_from_month (year ⊖ year_bias) index → first ≡ n ⊖ day_bias →
+    first ≡ day_from_month (balanced_year y m) (fmod (m -ℤ pos 1) 12)
+first_is y m first year index n e f g h =
+    let i : fmod (m -ℤ pos 1) 12 ≡ index = omega arith in
+    rw (← e, i) (h ∙ g)
 
--- a day so far away that the first day of a month and a carry do not count
-abbrev pub is_far : ℤ → Bool
-is_far day = lt_z day (neg_ℤ (pos 1000000000000000000)) || lt_z (pos 1000000000000000000) day
+-- a number that has no room in 64 bits is past the balanced range
+no_room : (z : ℤ) → (SFits w64 z → ⊥) → balanced z ≡ false
+no_room (pos n) h =
+    ⊎_elim (λ l. absurd (h (record { sfits = l }))) (λ l. too_high (pos n) (omega (arith, ints))) (split n (2 ^ 63))
+no_room (negsuc n) h =
+    ⊎_elim (λ l. absurd (h (record { sfits = l }))) (λ l. too_low (negsuc n) (omega (arith, ints))) (split n (2 ^ 63))
 
--- the exact count that balancing goes by: the first day of the month, plus day, minus 1
+-- the exact count that balancing goes by: the day, and what lies before it, the first day of the month and the carry less 1
 module _ (y m first day carry : ℤ) (is : first ≡ day_from_month (balanced_year y m) (fmod (m -ℤ pos 1) 12)) where
-  count_is : iso_date_to_epoch_days y (m -ℤ pos 1) (day +ℤ carry) ≡ first +ℤ (day +ℤ carry -ℤ pos 1)
-  unfolding iso_date_to_epoch_days
-  count_is = rw (← is) (+ℤ_assoc first (day +ℤ carry) (neg_ℤ (pos 1)))
+  abbrev count : ℤ
+  count = day +ℤ (first +ℤ (carry -ℤ pos 1))
 
-  pub count_given : day_to_date (first +ℤ (day +ℤ carry -ℤ pos 1)) ≡ balance_date y m (day +ℤ carry)
+  count_is : iso_date_to_epoch_days y (m -ℤ pos 1) (day +ℤ carry) ≡ count
+  unfolding iso_date_to_epoch_days
+  count_is =
+      let a = read_add day carry in
+      let b = read_add first (day +ℤ carry) in
+      let c = read_add (first +ℤ (day +ℤ carry)) (neg_ℤ (pos 1)) in
+      let d = read_add carry (neg_ℤ (pos 1)) in
+      let e = read_add first (carry -ℤ pos 1) in
+      let f = read_add day (first +ℤ (carry -ℤ pos 1)) in
+      rw (← is) (omega (arith, ints))
+
+  pub count_given : day_to_date count ≡ balance_date y m (day +ℤ carry)
   unfolding balance_date
   count_given = ap day_to_date (sym count_is)
 
-  pub count_far : nat_abs first < 2 ^ 50 → nat_abs carry < 2 ^ 52 → is_far day ≡ true → refused 4 ≡ balance_date y m (day +ℤ carry)
+  pub count_far : (SFits w64 count → ⊥) → refused 4 ≡ balance_date y m (day +ℤ carry)
   unfolding balance_date
-  count_far near few far =
-      let sum : ℤ = day +ℤ carry -ℤ pos 1 in
-      let s = read_add day carry in
-      let t = read_add (day +ℤ carry) (neg_ℤ (pos 1)) in
-      let w = read_add first sum in
-      rw count_is
-      (date_far (first +ℤ sum)
-      (one_of (lt_z day (neg_ℤ (pos 1000000000000000000))) (lt_z (pos 1000000000000000000) day) far
-      (λ l. too_low (first +ℤ sum) (omega (arith, ints, size_of first, size_of carry)))
-      (λ l. too_high (first +ℤ sum) (omega (arith, ints, size_of first, size_of carry)))))
+  count_far h = rw count_is (date_far count (no_room count h))
 
--- and that it has room in 64 bits
-module _ (day carry : ℤ) (few : nat_abs carry < 2 ^ 52) (near : is_far day ≡ false) where
-  day_near : (neg_ℤ (pos 1000000000000000000) ≤ℤ day) × (day ≤ℤ pos 1000000000000000000)
-  day_near =
-      let l = neither (lt_z day (neg_ℤ (pos 1000000000000000000))) (lt_z (pos 1000000000000000000) day) near in
-      (omega (arith, ints, l.0), omega (arith, ints, l.1))
-
-  pub sum_fits : SFits w64 (day +ℤ carry)
-  sum_fits = omega (arith, ints, day_near, read_add day carry, size_of carry, range_of (day +ℤ carry))
-
-  pub less_fits : SFits w64 (day +ℤ carry -ℤ pos 1)
-  less_fits =
-      let sum : ℤ = day +ℤ carry -ℤ pos 1 in
-      omega (arith, ints, day_near, read_add day carry, read_add (day +ℤ carry) (neg_ℤ (pos 1)), size_of carry, range_of sum)
-
-  pub count_fits : (first : ℤ) → nat_abs first < 2 ^ 50 → SFits w64 (first +ℤ (day +ℤ carry -ℤ pos 1))
-  count_fits first h =
-      let sum : ℤ = day +ℤ carry -ℤ pos 1 in
-      let t = read_add (day +ℤ carry) (neg_ℤ (pos 1)) in
-      omega (arith, ints, day_near, read_add day carry, read_add first sum, size_of first, size_of carry, range_of (first +ℤ sum))
+-- what lies before the day has room in 64 bits
+pub before_fits : (first carry : ℤ) (n : ℕ) → first ≡ n ⊖ day_bias → n < 2 ^ 50 → nat_abs carry < 2 ^ 52 →
+    SFits w64 (carry -ℤ pos 1) × SFits w64 (first +ℤ (carry -ℤ pos 1))
+before_fits first carry n e h few =
+    let less : ℤ = carry -ℤ pos 1 in
+    let a = read_add carry (neg_ℤ (pos 1)) in
+    let b = read_add first less in
+    let d = read_diff n day_bias in (
+      record { sfits = omega (arith, ints, size_of carry, range_of less) },
+      record { sfits = omega (arith, ints, size_of carry, range_of (first +ℤ less)) },
+    )
 
 -- ---- what the last test of the code decides
 
@@ -308,11 +302,6 @@ limits_decide n =
     go : (t : Bool) → le_z (neg_ℤ (pos 100000001)) n ≡ t → (le_z (neg_ℤ (pos 100000001)) n && le_z n (pos 100000000)) ≡ false → moment_within_limits n noon ≡ false
     go true e f = let g : le_z n (pos 100000000) ≡ false = rw e at f in limits_high n noon (omega arith) (omega (arith, ints))
     go false e f = limits_low n noon (omega arith) (omega (arith, ints))
-
--- a month has a day
-pub length_positive : (y : ℤ) (m : ℕ) → 1 ≤ m → m ≤ 12 → 1 ≤ iso_days_in_month y m
-unfolding iso_days_in_month
-length_positive y m a b = length_least (leap_year y) (m - 1) (omega arith)
 
 -- ---- a regulated date is valid, so that its limits alone decide whether it is made
 
@@ -349,6 +338,12 @@ module _ (d e : IsoDate) (o : Overflow) where
   unfolding make_date
   made h = rw (← h)
 
+  pub make_given : given e ≡ regulate_date d o → iso_date_within_limits e ≡ true → given e ≡ make_date d o
+  make_given h w = rw (made h, w)
+
+  pub make_past : given e ≡ regulate_date d o → iso_date_within_limits e ≡ false → refused 2 ≡ make_date d o
+  make_past h w = rw (made h, w)
+
   pub make_out : (n : ℕ) → given e ≡ regulate_date d o → refused n ≡ date_limits e → refused 2 ≡ make_date d o
   make_out n h k = go (iso_date_within_limits e) refl (k ∙ limits_said e (regulated_valid d e o h)) ∙ sym (made h)
     where
@@ -356,6 +351,15 @@ module _ (d e : IsoDate) (o : Overflow) where
           refused 2 ≡ check (iso_date_within_limits e) 2 (given e)
       go true w l = never {A = Unit {0}} tt n (rw w at l)
       go false w l = rw w
+
+  -- a regulated date is valid, so what the limit test refuses it by is 2
+  pub make_limited : (n : ℕ) → given e ≡ regulate_date d o → refused n ≡ date_limits e → refused n ≡ make_date d o
+  make_limited n h k = go (iso_date_within_limits e) refl (k ∙ limits_said e (regulated_valid d e o h)) ∙ sym (made h)
+    where
+      go : (t : Bool) → iso_date_within_limits e ≡ t → refused n ≡ check (iso_date_within_limits e) 2 (given (tt {0})) →
+          refused n ≡ check (iso_date_within_limits e) 2 (given e)
+      go true w l = never {A = Unit {0}} tt n (rw w at l)
+      go false w l = rw w (ap refused (ap number_of (rw w at l)))
 
   pub make_within : given e ≡ regulate_date d o → given tt ≡ date_limits e → given e ≡ make_date d o
   make_within h k = go (iso_date_within_limits e) refl (k ∙ limits_said e (regulated_valid d e o h)) ∙ sym (made h)
@@ -365,7 +369,7 @@ module _ (d e : IsoDate) (o : Overflow) where
       go true w l = rw w
       go false w l = never {A = Unit {0}} tt 2 (sym (rw w at l))
 
-pub year_month_is : (y m z : ℤ) (u t year index : ℕ) → y ≡ u ⊖ year_bias → m ≡ t ⊖ month_bias → Balances u t year index →
+pub year_month_is : (y m z : ℤ) (year index : ℕ) → year ⊖ year_bias ≡ balanced_year y m → index + 1 ≡ balanced_month m →
     z ≡ clamp_z (year ⊖ year_bias) (neg_ℤ (pos (2 ^ 31))) (pos (2 ^ 31 - 1)) → year_month z (index + 1) ≡ balance_year_month y m
 unfolding balance_year_month
-year_month_is y m z u t year index e f b g = rw (g, b.year_is, b.month_is, e, f)
+year_month_is y m z year index e f g = rw (g, e, f)

@@ -14,6 +14,7 @@ use Rattle.whole.proofs.Tests.{both}
 use Rattle.iso_date.specs.Proposal.{date, day_from_year, leap_year, month_lengths, iso_days_in_month, days_before_month, day_from_month}
 use Rattle.iso_date.specs.Proposal.{iso_date_to_epoch_days, epoch_days, year_from_day, month_of, day_of, date_in, epoch_days_to_iso_date}
 use Rattle.iso_date.specs.Proposal.{is_valid_iso_date}
+use Rattle.iso_date.specs.declared.IsoDate.{IsoDate}
 use Rattle.iso_date.specs.Inner.{year_bias, day_bias, year_start, YearHolds, MonthHolds}
 use Rattle.iso_date.proofs.Months.{Found, found, found_back, year_sum, twelve, month_within, month_found}
 use Rattle.iso_date.proofs.Years.{Holds, year_holds, year_unique, year_length, day_biased, in_biased_year}
@@ -43,6 +44,17 @@ pub show_valid : (y : ℤ) (m d : ℕ) → Valid y m d → is_valid_iso_date (da
 unfolding is_valid_iso_date
 show_valid y m d v =
     simp (le-leb 1 m v.month_low, le-leb m 12 v.month_high, le-leb 1 d v.day_low, le-leb d (iso_days_in_month y m) v.day_high)
+
+-- what the fields of a valid date are at least and at most
+module _ (d : IsoDate) (v : is_valid_iso_date d ≡ true) where
+  pub month_low : 1 ≤ d.month
+  month_low = (read_valid d.year d.month d.day v).month_low
+
+  pub month_high : d.month ≤ 12
+  month_high = (read_valid d.year d.month d.day v).month_high
+
+  pub day_low : 1 ≤ d.day
+  day_low = (read_valid d.year d.month d.day v).day_low
 
 -- ---- its day number
 

@@ -1,11 +1,11 @@
 -- The two tables of the code hold what the list of the twelve lengths says, each shown once over its twelve places.
 use Prim.Native.Nat.{ℕ, ◌+◌, ◌*◌, ◌≤◌, ◌<◌}
 use native.Mathlib.Omega.{arith}
-use borrow.Author.Tests.{ne_eqb, lt-ltb, le-ltb}
-use mathlib.Core.Path.{◌≡◌, sym, ◌∙◌}
-use mathlib.Core.Bool.{Bool, true, false, cond}
+use mathlib.Core.Path.{◌≡◌, refl, ◌∙◌, ap}
+use mathlib.Core.Bool.{Bool, true, false, cond, ◌&&◌}
 use mathlib.Core.List.{List, [], ◌∷◌}
-use lib.Dec.{ltb, eqb}
+use lib.Dec.{leb, eqb}
+use mir.Val.{bool_byte}
 use lib.ListN.{get_or}
 use Rattle.whole.proofs.Every.{every_equal, every_le}
 use Rattle.iso_date.specs.Proposal.{month_lengths, days_before_month}
@@ -21,7 +21,7 @@ abbrev pub length_at : Bool → ℕ → ℕ
 length_at leap i = get_or length_table i 0 + cond (eqb i 1) (cond leap 1 0) 0
 
 abbrev pub before_at : Bool → ℕ → ℕ
-before_at leap i = get_or before_table i 0 + cond (ltb i 2) 0 (cond leap 1 0)
+before_at leap i = get_or before_table i 0 + cond (leb 2 i) (cond leap 1 0) 0
 
 pub length_is : (leap : Bool) (i : ℕ) → i < 12 → length_at leap i ≡ get_or (month_lengths leap) i 0
 unfolding month_lengths
@@ -54,29 +54,23 @@ ends false = every_le (λ i. 31 * i) (λ i. days_before_month false i + get_or (
 
 -- ---- the two ways of the code through each table
 
-pub length_february : (leap : Bool) (x : ℕ) → x ≡ cond leap 1 0 → (28 + x ≡ get_or (month_lengths leap) 1 0) × (28 + x ≤ 31)
-unfolding month_lengths
-length_february true x e = omega arith
-length_february false x e = omega arith
+one_if_both : (a b : Bool) → bool_byte (a && b) ≡ cond b (cond a 1 0) 0
+one_if_both true true = refl
+one_if_both true false = refl
+one_if_both false true = refl
+one_if_both false false = refl
 
-pub length_other : (leap : Bool) (i : ℕ) → i < 12 → (i ≡ 1 → ⊥) → (get_or length_table i 0 ≡ get_or (month_lengths leap) i 0) × (get_or length_table i 0 ≤ 31)
-length_other leap i h n =
-    let e : length_at leap i ≡ get_or length_table i 0 = simp (ne_eqb i 1 n) (omega arith) in
-    (sym e ∙ length_is leap i h, rw e at (length_below leap i h))
+pub length_sum : (leap : Bool) (i x : ℕ) → i < 12 → x ≡ bool_byte (leap && eqb i 1) →
+    (get_or length_table i 0 + x ≡ get_or (month_lengths leap) i 0) × (get_or length_table i 0 + x ≤ 31)
+length_sum leap i x h e =
+    let f : get_or length_table i 0 + x ≡ length_at leap i = ap (λ (k : ℕ). get_or length_table i 0 + k) (e ∙ one_if_both leap (eqb i 1)) in
+    (f ∙ length_is leap i h, rw f (length_below leap i h))
 
-pub before_early : (leap : Bool) (i : ℕ) → i < 12 → i < 2 → (get_or before_table i 0 ≡ days_before_month leap i) × (get_or before_table i 0 < 336)
-before_early leap i h n =
-    let e : before_at leap i ≡ get_or before_table i 0 = simp (lt-ltb i 2 n) (omega arith) in
-    (sym e ∙ before_is leap i h, omega (arith, rw e at (before_below leap i h)))
-
-pub before_late : (leap : Bool) (i x : ℕ) → x ≡ cond leap 1 0 → i < 12 → 2 ≤ i →
-    (get_or before_table i 0 + x ≡ days_before_month leap i) × (get_or before_table i 0 + x < 336)
-before_late leap i x f h n =
-    let e : before_at leap i ≡ get_or before_table i 0 + x = simp (le-ltb i 2 n, f) in
-    (sym e ∙ before_is leap i h, omega (arith, rw e at (before_below leap i h)))
-
-pub before_small : (i : ℕ) → i < 12 → get_or before_table i 0 ≤ 334
-before_small = every_le (λ i. get_or before_table i 0) (λ i. 334) 12 tt
+pub before_sum : (leap : Bool) (i x r : ℕ) → i < 12 → x ≡ get_or before_table i 0 → r ≡ bool_byte (leap && leb 2 i) →
+    (x + r ≡ days_before_month leap i) × (x + r < 336)
+before_sum leap i x r h g e =
+    let f : x + r ≡ before_at leap i = rw (g, e, one_if_both leap (leb 2 i)) in
+    (f ∙ before_is leap i h, rw f (omega (arith, before_below leap i h)))
 
 pub length_least : (leap : Bool) (i : ℕ) → i < 12 → 1 ≤ get_or (month_lengths leap) i 0
 unfolding month_lengths

@@ -53,6 +53,10 @@ biased_leap u k =
     let e : (u + (400 - (400 * k) % 400)) % 400 ≡ u % 400 = omega arith in
     simp (whole, a, b, e)
 
+-- the same at the bias of the code, the test spelt as the code has it
+pub leap_test : (u : ℕ) → leap_of u ≡ leap_year (u ⊖ year_bias)
+leap_test u = sym (biased_leap u 20000000)
+
 -- ---- the next year starts after the days of this one
 
 -- ⌈u / d⌉ grows by one where d divides u

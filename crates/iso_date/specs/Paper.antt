@@ -1,7 +1,7 @@
 -- What the calls on dates answer, for every input: the checks in their order with their numbers, then the answer.
 use Rattle.std.specs.Prelude.{ℕ, ◌^◌, ◌-◌, Bool, ◌&&◌, leb, ℤ, pos, neg_ℤ, ◌-ℤ◌}
 use Rattle.std.specs.Int.Signed.{le_z}
-use Rattle.refusal.specs.Answer.{Answer, given, refused, check, and_then}
+use Rattle.refusal.specs.Answer.{Answer, given, check, and_then}
 use Rattle.whole.specs.Whole.{clamp_z}
 use Rattle.iso_date.specs.Proposal.{epoch_days, epoch_days_to_iso_date, is_valid_iso_date, iso_days_in_month, iso_date_to_epoch_days, balanced_year}
 use Rattle.iso_date.specs.Proposal.{balanced_month, constrain_iso_date, iso_date_within_limits}
@@ -9,33 +9,6 @@ use Rattle.iso_date.specs.declared.IsoDate.{IsoDate}
 use Rattle.iso_date.specs.declared.YearMonth.{YearMonth}
 use Rattle.options.specs.declared.Overflow.{Overflow}
 use Rattle.options.specs.declared.Overflow.TheVariants.{Constrain, Reject}
-use Rattle.iso_date.specs.declared.MonthLengthResult as MonthLengthResult
-use Rattle.iso_date.specs.declared.MonthLengthResult.TheVariants as L
-use Rattle.iso_date.specs.declared.DayResult as DayResult
-use Rattle.iso_date.specs.declared.DayResult.TheVariants as N
-use Rattle.iso_date.specs.declared.DateResult as DateResult
-use Rattle.iso_date.specs.declared.DateResult.TheVariants as D
-use Rattle.iso_date.specs.declared.LimitResult as LimitResult
-use Rattle.iso_date.specs.declared.LimitResult.TheVariants as W
-
--- ---- each enum's cases as number and values
-
-abbrev pub of_month_length : MonthLengthResult.MonthLengthResult → Answer ℕ
-of_month_length (L.Days n) = given n
-of_month_length (L.Refused n) = refused n
-
-abbrev pub of_day : DayResult.DayResult → Answer ℤ
-of_day (N.Day n) = given n
-of_day (N.Refused n) = refused n
-
-abbrev pub of_date : DateResult.DateResult → Answer IsoDate
-of_date (D.Date d) = given d
-of_date (D.Refused n) = refused n
-
--- that a date lies within the limits is an answer without values
-abbrev pub of_limit : LimitResult.LimitResult → Answer (Unit {0})
-of_limit W.Within = given tt
-of_limit (W.Refused n) = refused n
 
 -- ---- day counts and month lengths
 

@@ -3,13 +3,14 @@ use Prim.Native.Nat.{ℕ, ◌+◌, ◌-◌, ◌*◌, ◌/◌, ◌%◌, ◌≤◌
 use native.Mathlib.Omega.{arith}
 use mathlib.Core.Path.{◌≡◌, refl, sym, ◌∙◌, ap}
 use mathlib.Core.Bool.{Bool, true, false, cond}
-use borrow.Author.Tests.{ltb-true, ltb-false, lt-ltb, le-ltb, le-leb, leb-true, leb-false}
-use lib.Dec.{ltb, leb}
+use mathlib.Core.Logic.{◌⊎◌, ⊎_elim}
+use borrow.Author.Tests.{ltb-true, ltb-false, lt-ltb, le-ltb, le-leb}
+use lib.Dec.{ltb}
 use lib.IntN.{ℤ, pos, neg_ℤ, nat_abs, ◌+ℤ◌, ◌-ℤ◌, ◌*ℤ◌}
 use lib.Signed.{lt_z}
 use Rattle.options.specs.Units.{ns_per_day}
-use Rattle.whole.specs.Whole.{apart, ◌⊖◌}
-use Rattle.whole.proofs.Laws.{up, dn, ints, read_add, read_neg, read_times, read_diff, fdiv_unique}
+use Rattle.whole.specs.Whole.{◌⊖◌}
+use Rattle.whole.proofs.Laws.{split, up, dn, ints, read_add, read_neg, read_times, read_diff, fdiv_unique}
 use Rattle.whole.proofs.Tests.{alike, and_false}
 use Rattle.iso_date.specs.Proposal.{date, epoch_days, is_valid_iso_date, constrain_iso_date}
 use Rattle.iso_date.specs.declared.IsoDate.{IsoDate}
@@ -126,72 +127,66 @@ module _ (p a q b : ℕ) where
   left_behind : (t : ℤ) → t ≡ pos 0 → b ≤ a → neg_ℤ (pos (a - b)) ≡ left t
   left_behind t e h = omega (arith, ints, read_left t, read_neg (pos (a - b)))
 
-  -- ---- the five ways
+  -- ---- the two directions: k days are borrowed, and n nanoseconds are then left
 
-  pub adjusted_down : p < q → b < a → a < ns_per_day → Adjusts p a q b (q - 1) true (b + ns_per_day - a)
-  adjusted_down h k l =
-      let e = moved_down h k in
-      record {
-        day_is = day_before moved e h;
-        left_is = left_down moved e l;
-        between = rw (le-leb p (q - 1) (omega arith), le-leb (q - 1) q (omega arith));
-        small = omega arith;
-      }
-
-  pub adjusted_ahead : p < q → a ≤ b → b < ns_per_day → Adjusts p a q b q true (b - a)
-  adjusted_ahead h k l =
-      let e = kept_ahead h k in
-      record {
-        day_is = same_day moved e;
-        left_is = left_ahead moved e k;
-        between = rw (le-leb p q (omega arith), le-leb q q (omega arith));
-        small = omega arith;
-      }
-
-  pub adjusted_up : q < p → a < b → b < ns_per_day → Adjusts p a q b (q + 1) false (a + ns_per_day - b)
-  adjusted_up h k l =
-      let e = moved_up h k in
-      record {
-        day_is = day_after moved e;
-        left_is = left_up moved e l;
-        between = rw (le-leb q (q + 1) (omega arith), le-leb (q + 1) p (omega arith));
-        small = omega arith;
-      }
-
-  pub adjusted_behind : q < p → b ≤ a → a < ns_per_day → Adjusts p a q b q false (a - b)
-  adjusted_behind h k l =
-      let e = kept_behind h k in
-      record {
-        day_is = same_day moved e;
-        left_is = left_behind moved e k;
-        between = rw (le-leb q q (omega arith), le-leb q p (omega arith));
-        small = omega arith;
-      }
-
-  pub adjusted_here : (n : ℕ) → q ≤ p → p ≤ q → a < ns_per_day → b < ns_per_day → n ≡ apart a b → Adjusts p a q b q (leb a b) n
-  adjusted_here n h k l m d = go (leb a b) refl
+  pub adjusted_ahead : (k n : ℕ) → p ≤ q → (b < a → p < q) → a < ns_per_day → k ≡ cond (ltb b a) 1 0 → n + a ≡ b + ns_per_day * k → n < ns_per_day →
+      Adjusts p a q b (q - k) true n
+  adjusted_ahead k n h i x e f l = go (ltb b a) refl (split p q)
     where
-      e : moved ≡ pos 0
-      e = kept_here h k
-
-      go : (t : Bool) → leb a b ≡ t → Adjusts p a q b q (leb a b) n
-      go true g =
-          let c : a ≤ b = leb-true a b g in
-          let i : n ≡ b - a = omega arith in
-          rw (g, i)
+      go : (t : Bool) → ltb b a ≡ t → (p < q) ⊎ (q ≤ p) → Adjusts p a q b (q - k) true n
+      go true g s =
+          let j : p < q = i (ltb-true b a g) in
+          let o : k ≡ 1 = rw g at e in
+          let m = moved_down j (ltb-true b a g) in
+          let w : n ≡ b + ns_per_day - a = omega arith in
+          rw (o, w)
           (record {
-            day_is = same_day moved e;
-            left_is = left_ahead moved e c;
-            between = rw (le-leb p q k, le-leb q q (omega arith));
+            day_is = day_before moved m j;
+            left_is = left_down moved m (omega arith);
+            between = rw (le-leb p (q - 1) (omega arith), le-leb (q - 1) q (omega arith));
             small = omega arith;
           })
-      go false g =
-          let c : b < a = leb-false a b g in
-          let i : n ≡ a - b = omega arith in
-          rw (g, i)
+      go false g s =
+          let c : a ≤ b = ltb-false b a g in
+          let o : k ≡ 0 = rw g at e in
+          let m : moved ≡ pos 0 = ⊎_elim (λ j. kept_ahead j c) (λ j. kept_here j h) s in
+          let w : n ≡ b - a = omega arith in
+          let z : q - k ≡ q = omega arith in
+          rw (z, w)
           (record {
-            day_is = same_day moved e;
-            left_is = left_behind moved e (omega arith);
+            day_is = same_day moved m;
+            left_is = left_ahead moved m c;
+            between = rw (le-leb p q h, le-leb q q (omega arith));
+            small = omega arith;
+          })
+
+  pub adjusted_behind : (k n : ℕ) → q ≤ p → (a < b → q < p) → b < ns_per_day → k ≡ cond (ltb a b) 1 0 → n + b ≡ a + ns_per_day * k → n < ns_per_day →
+      Adjusts p a q b (q + k) false n
+  adjusted_behind k n h i x e f l = go (ltb a b) refl (split q p)
+    where
+      go : (t : Bool) → ltb a b ≡ t → (q < p) ⊎ (p ≤ q) → Adjusts p a q b (q + k) false n
+      go true g s =
+          let j : q < p = i (ltb-true a b g) in
+          let o : k ≡ 1 = rw g at e in
+          let m = moved_up j (ltb-true a b g) in
+          let w : n ≡ a + ns_per_day - b = omega arith in
+          rw (o, w)
+          (record {
+            day_is = day_after moved m;
+            left_is = left_up moved m (omega arith);
+            between = rw (le-leb q (q + 1) (omega arith), le-leb (q + 1) p (omega arith));
+            small = omega arith;
+          })
+      go false g s =
+          let c : b ≤ a = ltb-false a b g in
+          let o : k ≡ 0 = rw g at e in
+          let m : moved ≡ pos 0 = ⊎_elim (λ j. kept_behind j c) (λ j. kept_here h j) s in
+          let w : n ≡ a - b = omega arith in
+          let z : q + k ≡ q = omega arith in
+          rw (z, w)
+          (record {
+            day_is = same_day moved m;
+            left_is = left_behind moved m c;
             between = rw (le-leb q q (omega arith), le-leb q p h);
             small = omega arith;
           })

@@ -114,10 +114,9 @@ together forward n ns =
     let e : ns + ns_per_day * n ≡ ns_per_day * n + ns = omega arith in
     ap (λ (z : ℤ). directed forward ns +ℤ z) (directed_times forward ns_per_day n) ∙ directed_add forward ns (ns_per_day * n) ∙ ap (directed forward) e
 
-module _ (one two : IsoDateTime) (unit : TemporalUnit) (p day : ℕ) (forward : Bool) (ns rank : ℕ) (t : Placed one two p day forward ns)
-    (is : rank ≡ unit_rank unit) where
+module _ (one two : IsoDateTime) (unit : TemporalUnit) (p day : ℕ) (forward : Bool) (ns : ℕ) (t : Placed one two p day forward ns) where
   -- down to the day the dates are counted under the unit, and the time that is left stands beside them
-  pub dates_and_time : (d : DateDuration) (s : TimeDuration) → rank ≤ 3 →
+  pub dates_and_time : (d : DateDuration) (s : TimeDuration) → unit_rank unit ≤ 3 →
       d ≡ calendar_date_until one.date (epoch_days_to_iso_date (day ⊖ day_bias)) unit → s ≡ in_seconds (directed forward (ns_per_day * 0 + ns)) →
       both_parts d s ≡ difference_iso_date_time one two unit
   unfolding difference_iso_date_time
@@ -127,7 +126,7 @@ module _ (one two : IsoDateTime) (unit : TemporalUnit) (p day : ℕ) (forward : 
       (ap₂ both_parts e (rw z at f))
 
   -- below the day the days join the time
-  pub time_alone : is_valid_iso_date one.date ≡ true → (n : ℕ) (s : TimeDuration) → 3 < rank → n ≡ apart p day →
+  pub time_alone : is_valid_iso_date one.date ≡ true → (n : ℕ) (s : TimeDuration) → 3 < unit_rank unit → n ≡ apart p day →
       s ≡ in_seconds (directed forward (ns_per_day * n + ns)) →
       both_parts (duration (pos 0) (pos 0) (pos 0) (pos 0)) s ≡ difference_iso_date_time one two unit
   unfolding difference_iso_date_time
@@ -140,14 +139,14 @@ module _ (one two : IsoDateTime) (unit : TemporalUnit) (p day : ℕ) (forward : 
       (ap (both_parts (duration (pos 0) (pos 0) (pos 0) (pos 0))) e)
 
   -- the candidates are those of the dates' difference ..
-  pub dates_tried : (n : ℕ) → rank ≤ 3 → n ≡ calendar_date_tries one.date (epoch_days_to_iso_date (day ⊖ day_bias)) unit → n ≡ difference_tries one two unit
+  pub dates_tried : (n : ℕ) → unit_rank unit ≤ 3 → n ≡ calendar_date_tries one.date (epoch_days_to_iso_date (day ⊖ day_bias)) unit → n ≡ difference_tries one two unit
   unfolding difference_tries
   dates_tried n h e = rw (le-leb (unit_rank unit) 3 (omega arith), t.moved_is) e
 
 -- .. and below the day there are none
-pub none_tried : (one two : IsoDateTime) (unit : TemporalUnit) (rank : ℕ) → rank ≡ unit_rank unit → 3 < rank → 0 ≡ difference_tries one two unit
+pub none_tried : (one two : IsoDateTime) (unit : TemporalUnit) → 3 < unit_rank unit → 0 ≡ difference_tries one two unit
 unfolding difference_tries
-none_tried one two unit rank is h = rw (lt-leb (unit_rank unit) 3 (omega arith)) (sym (none_below one.date (moved_date one two) U.Day refl))
+none_tried one two unit h = rw (lt-leb (unit_rank unit) 3 (omega arith)) (sym (none_below one.date (moved_date one two) U.Day refl))
 
 abbrev counted : InternalDurationRecord → ℕ → DateTimeDifference
 counted d n = record { duration = d; tries = n }
@@ -166,7 +165,9 @@ module _ (one two : IsoDateTime) (unit : TemporalUnit) where
   unfolding date_time_difference
   second_refused n e f = rw (← e, ← f)
 
-  pub both_given : (r : DateTimeDifference) → given tt ≡ date_time_limits one → given tt ≡ date_time_limits two →
-      r ≡ difference_of_records one two unit → given r ≡ date_time_difference one two unit
+  pub both_given : (r : DateTimeDifference) (a b : IsoDateTime) → a ≡ one → b ≡ two → given tt ≡ date_time_limits one → given tt ≡ date_time_limits two →
+      r ≡ difference_of_records a b unit → given r ≡ date_time_difference one two unit
   unfolding date_time_difference
-  both_given r e f g = rw (← e, ← f, g)
+  both_given r a b i j e f g = rw (← e, ← f, g, i, j)
+
+pub ruleset difference_ways = (first_refused, second_refused, both_given)

@@ -3,8 +3,7 @@ use Prim.Native.Nat.{ℕ, ◌+◌, ◌-◌, ◌/◌, ◌%◌, ◌^◌, ◌≤◌
 use native.Mathlib.Omega.{arith}
 use mathlib.Core.Path.{◌≡◌, refl, sym, ◌∙◌, ap}
 use mathlib.Core.Bool.{Bool, true, false, ◌&&◌, ◌||◌}
-use borrow.Author.Tests.{ltb-true, lt-ltb}
-use lib.Dec.{ltb}
+use borrow.Author.Tests.{ltb-true}
 use lib.IntN.{ℤ, pos, neg_ℤ, nat_abs, ◌+ℤ◌, ◌-ℤ◌, ◌*ℤ◌}
 use lib.Signed.{lt_z, le_z, ◌≤ℤ◌, ◌<ℤ◌}
 use Rattle.options.specs.Units.{ns_per_day}
@@ -29,18 +28,6 @@ use Rattle.iso_date_time.specs.Paper.{date_time_limits, is_instant, is_offset, f
 use Rattle.iso_date_time.specs.declared.IsoDateTime.{IsoDateTime}
 
 -- ---- an offset
-
-pub offset_decides : (z : ℤ) → (lt_z (neg_ℤ (pos ns_per_day)) z && lt_z z (pos ns_per_day)) ≡ is_offset z
-unfolding is_offset
-offset_decides z =
-    together _ (ltb (nat_abs z) ns_per_day)
-    (λ e. let b = both (lt_z (neg_ℤ (pos ns_per_day)) z) (lt_z z (pos ns_per_day)) e in
-    lt-ltb (nat_abs z) ns_per_day (omega (arith, ints, b.0, b.1, size_of z, range_of z)))
-    (λ e.
-    let h = ltb-true (nat_abs z) ns_per_day e in
-    let low : lt_z (neg_ℤ (pos ns_per_day)) z ≡ true = omega (arith, ints, size_of z, range_of z) in
-    let high : lt_z z (pos ns_per_day) ≡ true = omega (arith, ints, size_of z, range_of z) in
-    rw (low, high))
 
 offset_small : (z : ℤ) → is_offset z ≡ true → nat_abs z < ns_per_day
 unfolding is_offset
@@ -75,6 +62,12 @@ read_instant day ns e =
       day_high = omega (arith, ints, read_times ns_per_day day, read_add (pos ns_per_day *ℤ day) ns);
       not_past = omega (arith, ints);
     }
+
+-- its nanosecond is the size of itself
+pub ns_natural : (day ns : ℤ) → is_instant day ns ≡ true → (n : ℕ) → n ≡ nat_abs ns → ns ≡ pos n
+ns_natural day ns e n f =
+    let t = read_instant day ns e in
+    omega (arith, ints, t.ns_low, nat_of ns t.ns_low, range_of ns)
 
 -- before day 10^8 every nanosecond is an instant, on it midnight alone, after it none
 pub instant_decides : (day ns : ℤ) →

@@ -1,7 +1,6 @@
 pub mod Differences
 pub mod Instants
 pub mod Moments
-pub mod Pinned
 pub mod Roundings
 pub mod Theorems
 pub mod Adjusted

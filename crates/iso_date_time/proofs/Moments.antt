@@ -2,14 +2,14 @@
 -- steps, one law for each way through the code.
 use Prim.Native.Nat.{ℕ, ◌^◌, ◌≤◌, ◌<◌}
 use native.Mathlib.Omega.{arith}
-use mathlib.Core.Path.{◌≡◌, refl, sym, ◌∙◌}
+use mathlib.Core.Path.{◌≡◌, ap, refl, sym, ◌∙◌}
 use mathlib.Core.Bool.{Bool, true, false, ◌&&◌, ◌||◌}
 use borrow.Author.Tests.{ltb-true, lt-ltb}
 use lib.Dec.{ltb}
 use lib.IntN.{ℤ, pos, neg_ℤ, nat_abs, ◌+ℤ◌, ◌-ℤ◌, ◌*ℤ◌}
 use lib.Signed.{lt_z, le_z}
 use Rattle.options.specs.Units.{ns_per_day}
-use Rattle.refusal.specs.Answer.{Answer, given, refused, check}
+use Rattle.refusal.specs.Answer.{Answer, given, refused, check, number_of}
 use Rattle.refusal.proofs.Answers.{given_inj, never}
 use Rattle.whole.proofs.Tests.{both, one_of, together}
 use Rattle.whole.proofs.Laws.{ints, size_of, range_of, read_add, read_times}
@@ -63,21 +63,24 @@ moment_decides n ns small = together _ (moment_within_limits n ns) there back
 -- ---- a record's checks
 
 module _ (r : IsoDateTime) where
-  pub limits_date : is_valid_iso_date r.date ≡ false → refused 1 ≡ date_time_limits r
+  pub limits_date : (n : ℕ) → n ≡ 1 → is_valid_iso_date r.date ≡ false → refused n ≡ date_time_limits r
   unfolding date_time_limits
-  limits_date e = rw e
+  limits_date n i e = rw (e, i)
 
-  pub limits_time : is_valid_iso_date r.date ≡ true → is_valid_time r.time ≡ false → refused 1 ≡ date_time_limits r
-  unfolding date_time_limits
-  limits_time e f = rw (e, f)
+  module _ (d : IsoDate) (i : d ≡ r.date) (e : is_valid_iso_date d ≡ true) where
+    pub limits_time : is_valid_time r.time ≡ false → refused 1 ≡ date_time_limits r
+    unfolding date_time_limits
+    limits_time f = rw (rw i at e, f)
 
-  pub limits_out : is_valid_iso_date r.date ≡ true → is_valid_time r.time ≡ true → iso_date_time_within_limits r ≡ false → refused 3 ≡ date_time_limits r
-  unfolding date_time_limits
-  limits_out e f g = rw (e, f, g)
+    pub limits_out : is_valid_time r.time ≡ true → iso_date_time_within_limits (date_time d r.time) ≡ false → refused 3 ≡ date_time_limits r
+    unfolding date_time_limits
+    limits_out f g = rw (rw i at e, f, rw i at g)
 
-  pub limits_within : is_valid_iso_date r.date ≡ true → is_valid_time r.time ≡ true → iso_date_time_within_limits r ≡ true → given tt ≡ date_time_limits r
-  unfolding date_time_limits
-  limits_within e f g = rw (e, f, g)
+    pub limits_within : is_valid_time r.time ≡ true → iso_date_time_within_limits (date_time d r.time) ≡ true → given tt ≡ date_time_limits r
+    unfolding date_time_limits
+    limits_within f g = rw (rw i at e, f, rw i at g)
+
+pub ruleset limits_ways = (limits_date, limits_time, limits_out, limits_within)
 
 -- what passing them tells
 pub record Fine (r : IsoDateTime) : Type 0 where
@@ -160,17 +163,19 @@ module _ (y m d h mi s ms us ns : ℤ) where
   abbrev day_on : BalancedTime → ℤ
   day_on b = iso_date_to_epoch_days y (m -ℤ pos 1) (d +ℤ b.days)
 
-  pub balance_bound : (n : ℕ) → refused n ≡ balance_time_fields h mi s ms us ns → refused 7 ≡ balance_date_time y m d h mi s ms us ns
+  pub balance_bound : (n : ℕ) → refused n ≡ balance_time_fields h mi s ms us ns → refused n ≡ balance_date_time y m d h mi s ms us ns
   unfolding balance_date_time balance_time_fields
-  balance_bound n e = let f = check_refused (all_bounded h mi s ms us ns) 7 n (balance_time h mi s ms us ns) e in rw f
+  balance_bound n e =
+      let f = check_refused (all_bounded h mi s ms us ns) 7 n (balance_time h mi s ms us ns) e in
+      ap refused (ap number_of (rw f at e)) ∙ rw f
 
   pub balance_count : (b : BalancedTime) (n : ℕ) → given b ≡ balance_time_fields h mi s ms us ns → refused n ≡ balance_date y m (d +ℤ b.days) →
-      refused 4 ≡ balance_date_time y m d h mi s ms us ns
+      refused n ≡ balance_date_time y m d h mi s ms us ns
   unfolding balance_date_time balance_time_fields balance_date day_to_date
   balance_count b n e f =
       let g = check_given (all_bounded h mi s ms us ns) 7 (balance_time h mi s ms us ns) b e in
       let k = check_refused (balanced (day_on b)) 4 n (epoch_days_to_iso_date (day_on b)) f in
-      rw (g.0, rw g.1 at k)
+      ap refused (ap number_of (rw k at f)) ∙ rw (g.0, rw g.1 at k)
 
   pub balance_is : (b : BalancedTime) (c : IsoDate) → given b ≡ balance_time_fields h mi s ms us ns → given c ≡ balance_date y m (d +ℤ b.days) →
       given (date_time c b.time) ≡ balance_date_time y m d h mi s ms us ns
@@ -189,3 +194,5 @@ module _ (y m d h mi s ms us ns : ℤ) where
       let f = check_passed (all_bounded h mi s ms us ns) 7 _ r (sym e) in
       let g = check_passed (balanced (day_on b)) 4 _ r f.1 in
       rw (← given_inj _ r g.1) (back_valid (day_on b), balance_is_valid h mi s ms us ns)
+
+pub ruleset balance_ways = (balance_bound, balance_count, balance_is, carry_small)

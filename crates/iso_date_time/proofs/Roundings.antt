@@ -1,11 +1,11 @@
 -- How the answer of rounding a date and time comes out of its steps, one law for each way through the code.
 use Prim.Native.Nat.{ℕ, ◌^◌, ◌<◌}
 use native.Mathlib.Omega.{arith}
-use mathlib.Core.Path.{◌≡◌, refl, sym, ap}
+use mathlib.Core.Path.{◌≡◌, refl, sym, ◌∙◌, ap}
 use mathlib.Core.Bool.{Bool, true, false}
 use lib.IntN.{ℤ, pos, neg_ℤ, nat_abs, ◌+ℤ◌, ◌*ℤ◌, +ℤ_idr}
 use lib.Signed.{◌≤ℤ◌}
-use Rattle.refusal.specs.Answer.{given, refused, check, number_of}
+use Rattle.refusal.specs.Answer.{Answer, given, refused, check, number_of}
 use Rattle.refusal.proofs.Answers.{given_inj, never}
 use Rattle.whole.proofs.Laws.{ints, size_of, range_of, read_add}
 use Rattle.iso_date.specs.Proposal.{epoch_days, epoch_days_to_iso_date, is_valid_iso_date}
@@ -58,9 +58,10 @@ unfolding day_to_date
 day_valid d n e =
     rw (check_given (balanced n) 4 (epoch_days_to_iso_date n) d e).1 (back_valid n)
 
--- no weeks
-pub days_alone : (a d : ℤ) → a +ℤ (d +ℤ pos 7 *ℤ pos 0) ≡ a +ℤ d
-days_alone a d = ap (λ (z : ℤ). a +ℤ z) (+ℤ_idr d)
+-- no weeks: the record's date and the days as the code has them
+pub days_alone : (one two : IsoDateTime) (x : Answer IsoDate) (d z : ℤ) → one ≡ two → z ≡ d →
+    x ≡ day_to_date (epoch_days one.date +ℤ (z +ℤ pos 7 *ℤ pos 0)) → x ≡ day_to_date (epoch_days two.date +ℤ d)
+days_alone one two x d z e f h = h ∙ rw (e, f) (ap (λ (n : ℤ). day_to_date (epoch_days two.date +ℤ n)) (+ℤ_idr d))
 
 -- ---- the ways
 
@@ -104,3 +105,28 @@ module _ (r : IsoDateTime) (unit : TemporalUnit) (inc : ℕ) (mode : RoundingMod
         let g = round_read r.time unit inc mode b e in
         let k = check_given (balanced (epoch_days r.date +ℤ b.days)) 4 (epoch_days_to_iso_date (epoch_days r.date +ℤ b.days)) d f in
         rw (← h, g.1.0, g.1.1.0, k.1, g.1.1.1)
+
+    module _ (d : IsoDate) (f : given d ≡ day_to_date (epoch_days r.date +ℤ b.days)) where
+      abbrev made : IsoDateTime
+      made = date_time d b.time
+
+      limits_alone : date_time_limits made ≡ check (iso_date_time_within_limits made) 3 (given tt)
+      unfolding date_time_limits
+      limits_alone = rw (day_valid d (epoch_days r.date +ℤ b.days) f, (rounded r.time unit inc mode b e).valid)
+
+      -- the fields are valid, so that the limits alone can refuse what comes out
+      pub round_out : (n : ℕ) → refused n ≡ date_time_limits made → refused n ≡ round_date_time r unit inc mode
+      round_out n g = go (iso_date_time_within_limits made) (g ∙ limits_alone) ∙ round_limits d f
+        where
+          go : (t : Bool) → refused n ≡ check {A = Unit {0}} t 3 (given tt) → refused n ≡ check t 3 (given made)
+          go true g = never {A = Unit {0}} tt n g
+          go false g = ap refused (ap number_of g)
+
+      pub round_within : given tt ≡ date_time_limits made → given made ≡ round_date_time r unit inc mode
+      round_within g = go (iso_date_time_within_limits made) (g ∙ limits_alone) ∙ round_limits d f
+        where
+          go : (t : Bool) → given tt ≡ check {A = Unit {0}} t 3 (given tt) → given made ≡ check t 3 (given made)
+          go true g = refl
+          go false g = never {A = Unit {0}} tt 3 (sym g)
+
+pub ruleset round_ways = (round_record, round_time_lem)

@@ -1,12 +1,13 @@
 -- What holds of the calls on dates with a time beyond their definitions: the difference of two records within the limits is always
 -- given, is exact in nanoseconds, has no part larger than the unit and never two directions; rounding does not meet the refusal of a
 -- day count, and what it gives may stand.
-use Prim.Native.Nat.{ℕ, ◌+◌, ◌*◌, ◌/◌, ◌%◌, ◌≤◌, ◌<◌}
+use Prim.Native.Nat.{ℕ, ◌+◌, ◌-◌, ◌*◌, ◌/◌, ◌%◌, ◌≤◌, ◌<◌}
 use native.Mathlib.Omega.{arith}
 use mathlib.Core.Path.{◌≡◌, refl, sym, ◌∙◌, ap}
 use mathlib.Core.Logic.{⊎_elim}
-use mathlib.Core.Bool.{Bool, true, false}
-use borrow.Author.Tests.{le-leb}
+use mathlib.Core.Bool.{Bool, true, false, cond}
+use borrow.Author.Tests.{le-leb, lt-ltb, le-ltb}
+use lib.Dec.{ltb}
 use lib.IntN.{ℤ, pos, neg_ℤ, ◌+ℤ◌, ◌-ℤ◌, ◌*ℤ◌, +ℤ_idl, +ℤ_comm}
 use Rattle.refusal.specs.Answer.{Answer, given, refused, check, and_then, number_of}
 use Rattle.refusal.proofs.Answers.{given_inj, never}
@@ -43,7 +44,7 @@ use Rattle.iso_date_time.specs.Claims.{exactly, OneWay}
 use Rattle.iso_date_time.specs.declared.IsoDateTime.{IsoDateTime}
 use Rattle.iso_date_time.specs.declared.DateTimeDifference.{DateTimeDifference}
 use Rattle.iso_date_time.proofs.Moments.{Fine, limits_fine, check_passed}
-use Rattle.iso_date_time.proofs.Adjusted.{in_seconds_is, adjusted_down, adjusted_ahead, adjusted_up, adjusted_behind, adjusted_here, day_difference}
+use Rattle.iso_date_time.proofs.Adjusted.{in_seconds_is, adjusted_ahead, adjusted_behind, day_difference}
 use Rattle.iso_date_time.proofs.Differences.{Placed, fine_day, placed, dates_and_time, time_alone, none_tried}
 
 -- ---- the exact nanoseconds of an answer's days and time
@@ -111,16 +112,26 @@ at_least_day_lem U.Microsecond = refl
 at_least_day_lem U.Nanosecond = refl
 
 -- any two moments can be adjusted
+some_until : {A : Type 0} (a b : ℕ) → a < ns_per_day → b < ns_per_day →
+    ((k n : ℕ) → k ≡ cond (ltb b a) 1 0 → n + a ≡ b + ns_per_day * k → n < ns_per_day → A) → A
+some_until a b k l go =
+    ⊎_elim (λ h. go 1 (b + ns_per_day - a) (rw (lt-ltb b a h)) (omega arith) (omega arith))
+    (λ h. go 0 (b - a) (rw (le-ltb b a h)) (omega arith) (omega arith)) (split b a)
+
 module _ {A : Type 0} (p a q b : ℕ) (k : a < ns_per_day) (l : b < ns_per_day)
     (go_on : (day : ℕ) (forward : Bool) (ns : ℕ) → Adjusts p a q b day forward ns → A) where
+  ahead : p ≤ q → (b < a → p < q) → A
+  ahead h i = some_until a b k l (λ m n x y z. go_on _ _ _ (adjusted_ahead p a q b m n h i k x y z))
+
+  behind : q ≤ p → (a < b → q < p) → A
+  behind h i = some_until b a l k (λ m n x y z. go_on _ _ _ (adjusted_behind p a q b m n h i l x y z))
+
   some_adjustment : A
   some_adjustment =
-      ⊎_elim
-      (λ h. ⊎_elim (λ i. go_on _ _ _ (adjusted_down p a q b h i k)) (λ i. go_on _ _ _ (adjusted_ahead p a q b h i l)) (split b a))
+      ⊎_elim (λ h. ahead (omega arith) (λ i. h))
       (λ h.
-      ⊎_elim
-      (λ j. ⊎_elim (λ i. go_on _ _ _ (adjusted_up p a q b j i l)) (λ i. go_on _ _ _ (adjusted_behind p a q b j i k)) (split a b))
-      (λ j. go_on _ _ _ (adjusted_here p a q b (apart a b) h j k l refl))
+      ⊎_elim (λ j. behind h (λ i. j))
+      (λ j. ⊎_elim (λ i. behind h (λ x. omega arith)) (λ i. ahead j (λ x. omega arith)) (split b a))
       (split q p))
       (split p q)
 
@@ -176,7 +187,7 @@ module _ (one two : IsoDateTime) (one_stands : date_time_limits one ≡ given tt
       ⊎_elim
       (λ h.
       let n : ℕ = apart p day in
-      rw (← time_alone one two unit p day forward ns (unit_rank unit) t refl one_fine.date_valid n _ h refl (in_seconds_is forward n ns _ _ refl refl))
+      rw (← time_alone one two unit p day forward ns t one_fine.date_valid n _ h refl (in_seconds_is forward n ns _ _ refl refl))
       (record {
         forward = forward;
         years_along = nothing forward;
@@ -190,7 +201,7 @@ module _ (one two : IsoDateTime) (one_stands : date_time_limits one ≡ given tt
       let to : ℤ = day ⊖ day_bias in
       let ahead = ahead_by forward (epoch_days one.date) (epoch_days (epoch_days_to_iso_date to)) (apart p day) (rw (back_and_there to) t.days_are) in
       let d = parts_ahead forward one.date (epoch_days_to_iso_date to) unit one_fine.date_valid (back_valid to) ahead in
-      rw (← dates_and_time one two unit p day forward ns (unit_rank unit) t refl _ _ h (sym d.are) (in_seconds_is forward 0 ns _ _ refl refl))
+      rw (← dates_and_time one two unit p day forward ns t _ _ h (sym d.are) (in_seconds_is forward 0 ns _ _ refl refl))
       (record {
         forward = forward;
         years_along = counted forward d.years;
@@ -253,7 +264,7 @@ module _ (one two : IsoDateTime) (one_stands : date_time_limits one ≡ given tt
 
 -- below the day none are, whatever the records
 pub none_below_day : (one two : IsoDateTime) (unit : TemporalUnit) → 4 ≤ unit_rank unit → difference_tries one two unit ≡ 0
-none_below_day one two unit h = sym (none_tried one two unit (unit_rank unit) refl (omega arith))
+none_below_day one two unit h = sym (none_tried one two unit (omega arith))
 
 -- ---- rounding never refuses with 4, and what it gives may stand
 

@@ -3,7 +3,7 @@
 use Rattle.std.specs.Prelude.{ℕ, Bool, ◌&&◌, ltb, ℤ, pos, neg_ℤ, nat_abs, ◌+ℤ◌, ◌-ℤ◌, ◌*ℤ◌}
 use Rattle.std.specs.Int.Signed.{le_z, lt_z}
 use Rattle.options.specs.Units.{ns_per_day}
-use Rattle.refusal.specs.Answer.{Answer, given, refused, check, and_then}
+use Rattle.refusal.specs.Answer.{Answer, given, check, and_then}
 use Rattle.iso_date.specs.Proposal.{iso_date_to_epoch_days, is_valid_iso_date}
 use Rattle.iso_date.specs.Paper.{balanced}
 use Rattle.iso_time.specs.Proposal.{is_valid_time, balance_time, valid_increment}
@@ -15,20 +15,6 @@ use Rattle.iso_date_time.specs.Proposal.{iso_date_time_within_limits, balance_is
 use Rattle.iso_date_time.specs.Proposal.{moved_date, at_least_day, get_iso_parts_from_epoch, with_offset}
 use Rattle.iso_date_time.specs.declared.IsoDateTime.{IsoDateTime}
 use Rattle.iso_date_time.specs.declared.DateTimeDifference.{DateTimeDifference}
-use Rattle.iso_date_time.specs.declared.DateTimeResult.{DateTimeResult}
-use Rattle.iso_date_time.specs.declared.DateTimeResult.TheVariants as R
-use Rattle.iso_date_time.specs.declared.DifferenceResult.{DifferenceResult}
-use Rattle.iso_date_time.specs.declared.DifferenceResult.TheVariants as D
-
--- ---- each enum's cases as number and values
-
-abbrev pub of_date_time : DateTimeResult → Answer IsoDateTime
-of_date_time (R.DateTime r) = given r
-of_date_time (R.Refused n) = refused n
-
-abbrev pub of_difference : DifferenceResult → Answer DateTimeDifference
-of_difference (D.Difference d) = given d
-of_difference (D.Refused n) = refused n
 
 -- ---- dates with a time
 

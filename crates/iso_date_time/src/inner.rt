@@ -1,5 +1,6 @@
 // Moments as a day and a nanosecond of the day. In differences and for an instant both are naturals.
-ghost use Rattle.std.specs.Prelude.{◌≡◌, true, ◌+◌, ◌-◌, ◌*◌, ◌^◌, ◌<◌, ◌≤◌, nat_abs};
+ghost use Rattle.std.specs.Prelude.{◌≡◌, true, ◌+◌, ◌-◌, ◌*◌, ◌^◌, ◌<◌, ◌≤◌, cond, ltb, nat_abs};
+ghost use Rattle.refusal.specs.Refusals.{answer_of};
 ghost use Rattle.options.specs.Units.{ns_per_day};
 ghost use Rattle.refusal.specs.Answer.{check, given};
 ghost use Rattle.whole.specs.Whole.{◌⊖◌};
@@ -9,23 +10,21 @@ ghost use Rattle.iso_time.specs.Proposal.{is_valid_time, nanoseconds, in_seconds
 ghost use Rattle.date_math.specs.Proposal.{directed};
 ghost use Rattle.date_math.specs.Paper.{difference_of_dates};
 ghost use Rattle.iso_date_time.specs.Proposal.{date_time, iso_date_time_within_limits, get_iso_parts_from_epoch, with_offset};
-ghost use Rattle.iso_date_time.specs.Paper.{of_date_time, date_time_limits, difference_of_records, is_instant, is_offset};
+ghost use Rattle.iso_date_time.specs.Paper.{date_time_limits, difference_of_records, is_instant, is_offset};
 ghost use Rattle.iso_date_time.specs.Inner.{Adjusts};
 
-use crate::{DateTimeDifference, DateTimeResult, InternalDurationRecord, IsoDateTime};
+use crate::{DateTimeDifference, InternalDurationRecord, IsoDateTime};
 use date_duration::DateDuration;
 use date_math::DateDifference;
 use iso_date::IsoDate;
-use iso_date::inner::{DAY_BIAS, day_up};
-use iso_time::inner::nanoseconds_of;
-use iso_time::{IsoTime, TimeDuration};
-use options::{DAY_RANK, Unit};
-use whole::inner::{abs_diff, directed, raise, to_natural};
+use iso_date::inner::{DAY_BIAS, ValidDate};
+use iso_time::TimeDuration;
+use iso_time::inner::ValidTime;
+use options::Unit;
+use refusal::Refusal;
+use whole::inner::{directed, raise};
 
 const NS_PER_DAY: u64 = 86_400_000_000_000;
-
-// The same with a sign, for the bounds of what is handed in.
-const NS_PER_DAY_SIGNED: i64 = 86_400_000_000_000;
 
 // An instant lies at most so many days from the epoch, and the limits of a moment a day further, both ends outside.
 const MOST_INSTANT_DAYS: i64 = 100_000_000;
@@ -34,31 +33,41 @@ const NS_PER_SECOND: u64 = 1_000_000_000;
 
 const SECONDS_PER_DAY: u64 = 86_400;
 
+// A record whose fields are valid and that lies within the limits.
+#[derive(Clone, Copy)]
+pub struct ValidDateTime {
+    pub date: ValidDate,
+    pub time: ValidTime,
+    pub ghost within: { given tt ≡ date_time_limits (date_time date.date time.time) },
+}
+
 // Whether a moment lies strictly between the limits: on the first day of all, midnight does not.
-pub fn within_limits(date: IsoDate, time: IsoTime) -> bool
-    requires { (is_valid_iso_date date ≡ true) × (is_valid_time time ≡ true) }
-    ensures { result ≡ iso_date_time_within_limits (date_time date time) }
+pub fn is_within_limits(date: ValidDate, time: ValidTime) -> bool
+    ensures { result ≡ iso_date_time_within_limits (date_time date.date time.time) }
 {
-    let day = iso_date::inner::epoch_days(date);
-    let ns = nanoseconds_of(time);
+    let day = date.epoch_days();
+    let ns = time.nanoseconds();
+    // By `&&` and `||` each way out is a goal of its own, which was tried: one law reads the test as one formula.
     (-MOST_INSTANT_DAYS - 1 <= day)
         & (day <= MOST_INSTANT_DAYS)
         & ((-MOST_INSTANT_DAYS <= day) | (0 < ns))
 }
 
-// A record held to the limits (3).
-pub fn limited(date: IsoDate, time: IsoTime) -> DateTimeResult
-    requires { (is_valid_iso_date date ≡ true) × (is_valid_time time ≡ true) }
-    ensures { of_date_time result ≡ check (iso_date_time_within_limits (date_time date time)) 3 (given (date_time date time)) }
+// The days that a time of the day has to borrow to reach another, 1 or none, and the nanoseconds that it then takes.
+fn time_until(a: u64, b: u64) -> (u64, u64)
+    requires { (a < ns_per_day) × (b < ns_per_day) }
+    ensures { (result.0 ≡ cond (ltb b a) 1 0) × ((result.1 + a ≡ b + ns_per_day * result.0) × (result.1 < ns_per_day)) }
 {
-    if within_limits(date, time) {
-        return DateTimeResult::DateTime(IsoDateTime { date, time });
+    if b < a {
+        (1, b + NS_PER_DAY - a)
+    } else {
+        (0, b - a)
     }
-    DateTimeResult::Refused(refusal::DATETIME_LIMITS)
 }
 
-// The day that the second date is moved to, and the time that is then left: whether it goes forward, and its size.
-#[derive(Clone, Copy)]
+// The day that the second date is moved to, and the time that is then left: whether it goes forward, and its size. No number with a sign
+// in place of the two: where nothing is left the dates still have the direction.
+#[derive(Clone, Copy, Debug, PartialEq, Eq)]
 pub struct Adjustment {
     pub day: u64,
     pub forward: bool,
@@ -70,80 +79,63 @@ fn adjusted(p: u64, a: u64, q: u64, b: u64) -> Adjustment
     requires { ((a < ns_per_day) × (b < ns_per_day)) × ((p < 2 ^ 51) × (q < 2 ^ 51)) }
     ensures { Adjusts p a q b result.day result.forward result.nanoseconds }
 {
-    if p < q {
-        if b < a {
-            return Adjustment {
-                day: q - 1,
-                forward: true,
-                nanoseconds: b + NS_PER_DAY - a,
-            };
-        }
-        return Adjustment {
-            day: q,
+    if p < q || (p == q && a <= b) {
+        let (borrowed, nanoseconds) = time_until(a, b);
+        Adjustment {
+            day: q - borrowed,
             forward: true,
-            nanoseconds: b - a,
-        };
-    }
-    if q < p {
-        if a < b {
-            return Adjustment {
-                day: q + 1,
-                forward: false,
-                nanoseconds: a + NS_PER_DAY - b,
-            };
+            nanoseconds,
         }
-        return Adjustment {
-            day: q,
+    } else {
+        let (borrowed, nanoseconds) = time_until(b, a);
+        Adjustment {
+            day: q + borrowed,
             forward: false,
-            nanoseconds: a - b,
-        };
-    }
-    Adjustment {
-        day: q,
-        forward: a <= b,
-        nanoseconds: abs_diff(a, b),
+            nanoseconds,
+        }
     }
 }
 
-// Days and nanoseconds of one direction, as whole seconds and nanoseconds.
-fn in_seconds(forward: bool, days: u64, nanoseconds: u64) -> TimeDuration
-    requires { (days < 2 ^ 40) × (nanoseconds < ns_per_day) }
-    ensures { result ≡ in_seconds (directed forward (ns_per_day * days + nanoseconds)) }
-{
-    TimeDuration {
-        seconds: directed(
-            forward,
-            SECONDS_PER_DAY * days + nanoseconds / NS_PER_SECOND,
-        ),
-        nanoseconds: directed(forward, nanoseconds % NS_PER_SECOND),
+impl Adjustment {
+    // Days and the time that is left, of its direction, as whole seconds and nanoseconds.
+    fn in_seconds(self, days: u64) -> TimeDuration
+        requires { (days < 2 ^ 40) × (self.nanoseconds < ns_per_day) }
+        ensures { result ≡ in_seconds (directed self.forward (ns_per_day * days + self.nanoseconds)) }
+    {
+        TimeDuration {
+            seconds: directed(
+                self.forward,
+                SECONDS_PER_DAY * days + self.nanoseconds / NS_PER_SECOND,
+            ),
+            nanoseconds: directed(self.forward, self.nanoseconds % NS_PER_SECOND),
+        }
     }
 }
 
 // The difference of two dates, the second by its day number.
-fn dates_until(one: IsoDate, day: u64, unit: Unit) -> DateDifference
-    requires { (is_valid_iso_date one ≡ true) × ((day_bias - 100000001 ≤ day) × (day ≤ day_bias + 100000001)) }
-    ensures { result ≡ difference_of_dates one (epoch_days_to_iso_date (day ⊖ day_bias)) unit }
+fn dates_until(one: ValidDate, day: u64, unit: Unit) -> DateDifference
+    requires { (day_bias - 100000001 ≤ day) × (day ≤ day_bias + 100000001) }
+    ensures { result ≡ difference_of_dates one.date (epoch_days_to_iso_date (day ⊖ day_bias)) unit }
 {
-    date_math::inner::difference(one, iso_date::inner::civil(day), unit)
+    let two = ValidDate {
+        date: iso_date::inner::civil(day),
+    };
+    date_math::inner::difference(one, two, unit)
 }
 
-// The difference of two records within the limits.
-pub fn difference(one: IsoDateTime, two: IsoDateTime, unit: Unit) -> DateTimeDifference
-    requires { (date_time_limits one ≡ given tt) × (date_time_limits two ≡ given tt) }
-    ensures { result ≡ difference_of_records one two unit }
+// The difference of two records.
+pub fn difference(one: ValidDateTime, two: ValidDateTime, unit: Unit) -> DateTimeDifference
+    ensures { result ≡ difference_of_records (date_time one.date.date one.time.time) (date_time two.date.date two.time.time) unit }
 {
-    let first = one.date;
-    let start = one.time;
-    let second = two.date;
-    let end = two.time;
-    let p = day_up(first);
-    let t = adjusted(
-        p,
-        nanoseconds_of(start),
-        day_up(second),
-        nanoseconds_of(end),
+    let from = one.date.day_up();
+    let moved = adjusted(
+        from,
+        one.time.nanoseconds(),
+        two.date.day_up(),
+        two.time.nanoseconds(),
     );
-    if unit.rank() > DAY_RANK {
+    if unit > Unit::Day {
+        let time = moved.in_seconds(from.abs_diff(moved.day));
         return DateTimeDifference {
             duration: InternalDurationRecord {
                 date: DateDuration {
@@ -152,16 +144,17 @@ pub fn difference(one: IsoDateTime, two: IsoDateTime, unit: Unit) -> DateTimeDif
                     weeks: 0,
                     days: 0,
                 },
-                time: in_seconds(t.forward, abs_diff(p, t.day), t.nanoseconds),
+                time,
             },
             tries: 0,
         };
     }
-    let dates = dates_until(first, t.day, unit);
-    let date = dates.duration;
-    let time = in_seconds(t.forward, 0, t.nanoseconds);
+    let dates = dates_until(one.date, moved.day, unit);
     DateTimeDifference {
-        duration: InternalDurationRecord { date, time },
+        duration: InternalDurationRecord {
+            date: dates.duration,
+            time: moved.in_seconds(0),
+        },
         tries: dates.tries,
     }
 }
@@ -170,17 +163,19 @@ pub fn difference(one: IsoDateTime, two: IsoDateTime, unit: Unit) -> DateTimeDif
 pub fn is_instant(day: i64, nanosecond: i64) -> bool
     ensures { result ≡ is_instant day nanosecond }
 {
+    // With `&` and `|` for the reason above.
     (0 <= nanosecond)
-        & (nanosecond < NS_PER_DAY_SIGNED)
+        & (nanosecond < NS_PER_DAY as i64)
         & (-MOST_INSTANT_DAYS <= day)
         & ((day < MOST_INSTANT_DAYS) | ((day <= MOST_INSTANT_DAYS) & (nanosecond <= 0)))
 }
 
 // Whether an offset is below one day in size.
+#[tactic(auto, unfolding(crate::specs::Paper::is_offset))]
 pub fn is_offset(offset: i64) -> bool
     ensures { result ≡ is_offset offset }
 {
-    (-NS_PER_DAY_SIGNED < offset) & (offset < NS_PER_DAY_SIGNED)
+    offset.unsigned_abs() < NS_PER_DAY
 }
 
 // The record of an instant at an offset. The offset is raised by a day, so that its sum with the nanosecond is a natural; the day number
@@ -189,10 +184,10 @@ pub fn from_instant(day: i64, nanosecond: i64, offset: i64) -> IsoDateTime
     requires { (is_instant day nanosecond ≡ true) × (is_offset offset ≡ true) }
     ensures { result ≡ with_offset (get_iso_parts_from_epoch day (nat_abs nanosecond)) offset }
 {
-    let n = to_natural(nanosecond) + raise(offset, NS_PER_DAY);
+    let n = nanosecond.unsigned_abs() + raise(offset, NS_PER_DAY);
     let d = raise(day, DAY_BIAS) + n / NS_PER_DAY - 1;
     IsoDateTime {
         date: iso_date::inner::civil(d),
-        time: iso_time::inner::time_at(n % NS_PER_DAY),
+        time: ValidTime::at(n % NS_PER_DAY).time,
     }
 }

@@ -1,25 +1,31 @@
 -- Checks one after another, the tables of units, and spans in seconds.
 use Prim.Native.Nat.{ℕ, zero, suc, ◌*◌, ◌/◌, ◌%◌, ◌≤◌, ◌<◌}
 use native.Mathlib.Omega.{arith}
-use mathlib.Core.Path.{◌≡◌, refl, sym, ◌∙◌}
-use mathlib.Core.Bool.{Bool, true, false, cond, ◌||◌}
-use mathlib.Core.List.{List, [], ◌∷◌}
-use borrow.Author.Tests.{leb-true, leb-false, ltb-true, eqb-true, eqb-false, ne_eqb, lt-ltb, le-ltb, le-leb, lt-leb}
-use lib.Dec.{leb, ltb, eqb, lit<, lit≤, leb-suc-zero}
-use lib.IntN.{ℤ, pos, negsuc, neg_ℤ, ◌-ℤ◌}
-use lib.ListN.{get_or}
-use lib.Signed.{quot_z, rem_z, mag_rem}
+use mathlib.Core.Path.{◌≡◌, refl, sym, ◌∙◌, ap}
+use mathlib.Core.Bool.{Bool, true, false, cond, ◌&&◌}
+use mathlib.Core.List.{[], ◌∷◌}
+use borrow.Author.Tests.{leb-true, ltb-true, eqb-true, eqb-false, lt-ltb, le-ltb}
+use lib.Dec.{leb, ltb, eqb, lit≤, leb-suc-zero}
+use lib.IntN.{ℤ, pos, neg_ℤ, nat_abs, ◌-ℤ◌}
 use mir.Facts.{to_z_pos}
 use mir.Syntax.{w64}
 use mir.Val.{SFits, to_z}
 use Rattle.whole.proofs.Laws.{range_of, read_add, read_neg}
-use Rattle.whole.proofs.Tests.{clash, both, and_false}
+use Rattle.whole.proofs.Tests.{both, and_false}
 use Rattle.options.specs.declared.Unit.{Unit as TemporalUnit}
 use Rattle.options.specs.declared.Unit.TheVariants as U
-use Rattle.options.specs.Units.{unit_rank, ns_per_day}
-use Rattle.iso_time.specs.Proposal.{in_seconds, unit_length, validate_temporal_rounding_increment, valid_increment}
-use Rattle.iso_time.specs.Paper.{all_bounded, is_rounding_unit}
-use Rattle.iso_time.specs.Inner.{AllWithin, dividend}
+use Rattle.options.specs.Units.{ns_per_day}
+use Rattle.std.specs.Prelude.{None, Some}
+use Rattle.std.specs.List.{list_all}
+use Rattle.refusal.specs.Answer.{Answer, number_of, given, refused, check}
+use Rattle.refusal.proofs.Answers.{given_inj, never}
+use Rattle.rounding.specs.declared.RoundingMode.{RoundingMode}
+use Rattle.iso_time.specs.Proposal.{in_seconds, unit_length, validate_temporal_rounding_increment, valid_increment, is_valid_time}
+use Rattle.iso_time.specs.Proposal.{balance_time, nanoseconds_until, difference_time, round_time}
+use Rattle.iso_time.specs.Paper.{all_bounded, balance_time_fields, is_rounding_unit, time_difference, rounded_time}
+use Rattle.iso_time.specs.Inner.{AllWithin, dividend, checked_time, scale_of, allowed}
+use Rattle.iso_time.specs.declared.IsoTime.{IsoTime}
+use Rattle.iso_time.specs.declared.inner.Scale.{Scale}
 use Rattle.iso_time.specs.declared.TimeDuration.{TimeDuration}
 
 -- ---- the bound of a field to be balanced
@@ -34,17 +40,31 @@ all_within h m s ms us ns e =
     let f = both _ _ d.1 in
     (leb-true _ _ a.0, (leb-true _ _ b.0, (leb-true _ _ c.0, (leb-true _ _ d.0, (leb-true _ _ f.0, leb-true _ _ f.1)))))
 
+-- the code's test of all six
+abbrev pub most_field : ℕ
+most_field = 9_007_199_254_740_991
+
+and_true : (a : Bool) → (a && true) ≡ a
+and_true true = refl
+and_true false = refl
+
+module _ (h m s ms us ns : ℤ) where
+  pub fields_are : list_all (λ z. leb (nat_abs z) most_field) (h ∷ m ∷ s ∷ ms ∷ us ∷ ns ∷ []) ≡ all_bounded h m s ms us ns
+  unfolding all_bounded
+  fields_are = simp and_true
+
+  pub balance_refused : all_bounded h m s ms us ns ≡ false → refused 7 ≡ balance_time_fields h m s ms us ns
+  unfolding balance_time_fields
+  balance_refused e = rw e
+
+  pub balance_given : all_bounded h m s ms us ns ≡ true → given (balance_time h m s ms us ns) ≡ balance_time_fields h m s ms us ns
+  unfolding balance_time_fields
+  balance_given e = rw e
+
 -- ---- units
 
--- what stands in a table at the rank of a unit
-abbrev at_rank : List ℕ → TemporalUnit → ℕ
-at_rank table u = get_or table (unit_rank u) 0
-
--- what the two tables say of a unit
+-- what is known of a unit that a time is rounded to
 pub record Row (u : TemporalUnit) : Type 0 where
-  pub in_table : unit_rank u < 10
-  pub length_at : at_rank (0 ∷ 0 ∷ 0 ∷ 86_400_000_000_000 ∷ 3_600_000_000_000 ∷ 60_000_000_000 ∷ 1_000_000_000 ∷ 1_000_000 ∷ 1000 ∷ 1 ∷ []) u ≡ unit_length u
-  pub dividend_at : at_rank (0 ∷ 0 ∷ 0 ∷ 1 ∷ 24 ∷ 60 ∷ 60 ∷ 1000 ∷ 1000 ∷ 1000 ∷ []) u ≡ dividend u
   -- those with a length are those that a time can be rounded to
   pub by_length : is_rounding_unit u ≡ ltb 0 (unit_length u)
   -- so many as make the next are one or more, and at most a day
@@ -53,37 +73,53 @@ pub record Row (u : TemporalUnit) : Type 0 where
 
 pub row : (u : TemporalUnit) → Row u
 unfolding unit_length dividend
-row U.Year = record { in_table = lit< tt; length_at = refl; dividend_at = refl; by_length = refl; least = lit≤ tt; most = lit≤ tt }
-row U.Month = record { in_table = lit< tt; length_at = refl; dividend_at = refl; by_length = refl; least = lit≤ tt; most = lit≤ tt }
-row U.Week = record { in_table = lit< tt; length_at = refl; dividend_at = refl; by_length = refl; least = lit≤ tt; most = lit≤ tt }
-row U.Day = record { in_table = lit< tt; length_at = refl; dividend_at = refl; by_length = refl; least = lit≤ tt; most = lit≤ tt }
-row U.Hour = record { in_table = lit< tt; length_at = refl; dividend_at = refl; by_length = refl; least = lit≤ tt; most = lit≤ tt }
-row U.Minute = record { in_table = lit< tt; length_at = refl; dividend_at = refl; by_length = refl; least = lit≤ tt; most = lit≤ tt }
-row U.Second = record { in_table = lit< tt; length_at = refl; dividend_at = refl; by_length = refl; least = lit≤ tt; most = lit≤ tt }
-row U.Millisecond = record { in_table = lit< tt; length_at = refl; dividend_at = refl; by_length = refl; least = lit≤ tt; most = lit≤ tt }
-row U.Microsecond = record { in_table = lit< tt; length_at = refl; dividend_at = refl; by_length = refl; least = lit≤ tt; most = lit≤ tt }
-row U.Nanosecond = record { in_table = lit< tt; length_at = refl; dividend_at = refl; by_length = refl; least = lit≤ tt; most = lit≤ tt }
+row U.Year = record { by_length = refl; least = lit≤ tt; most = lit≤ tt }
+row U.Month = record { by_length = refl; least = lit≤ tt; most = lit≤ tt }
+row U.Week = record { by_length = refl; least = lit≤ tt; most = lit≤ tt }
+row U.Day = record { by_length = refl; least = lit≤ tt; most = lit≤ tt }
+row U.Hour = record { by_length = refl; least = lit≤ tt; most = lit≤ tt }
+row U.Minute = record { by_length = refl; least = lit≤ tt; most = lit≤ tt }
+row U.Second = record { by_length = refl; least = lit≤ tt; most = lit≤ tt }
+row U.Millisecond = record { by_length = refl; least = lit≤ tt; most = lit≤ tt }
+row U.Microsecond = record { by_length = refl; least = lit≤ tt; most = lit≤ tt }
+row U.Nanosecond = record { by_length = refl; least = lit≤ tt; most = lit≤ tt }
 
 pub length_some : (unit : TemporalUnit) → is_rounding_unit unit ≡ true → 0 < unit_length unit
 length_some unit e = ltb-true 0 (unit_length unit) (sym (row unit).by_length ∙ e)
 
-module _ (unit : TemporalUnit) (len : ℕ) (e : len ≡ unit_length unit) where
-  pub no_unit : len ≡ 0 → is_rounding_unit unit ≡ false
-  no_unit h = (row unit).by_length ∙ le-ltb 0 (unit_length unit) (omega arith)
+-- what a unit with a scale is
+pub record Scaled (u : TemporalUnit) (s : Scale) : Type 0 where
+  pub usable : is_rounding_unit u ≡ true
+  pub some : 0 < unit_length u
+  pub length_is : s.length ≡ unit_length u
+  pub dividend_is : s.dividend ≡ dividend u
 
-  pub some_unit : (len ≡ 0 → ⊥) → is_rounding_unit unit ≡ true
-  some_unit h = (row unit).by_length ∙ lt-ltb 0 (unit_length unit) (omega arith)
+no_scale_by : (u : TemporalUnit) (s : Scale) (t : Bool) → eqb (unit_length u) 0 ≡ t → cond t None (Some s) ≡ None → is_rounding_unit u ≡ false
+no_scale_by u s true t e = (row u).by_length ∙ le-ltb 0 (unit_length u) (omega (arith, eqb-true (unit_length u) 0 t))
+no_scale_by u s false t e = let f : ⊥ = cc in absurd f
+
+pub no_scale : (u : TemporalUnit) → scale_of u ≡ None → is_rounding_unit u ≡ false
+unfolding scale_of
+no_scale u e = no_scale_by u _ (eqb (unit_length u) 0) refl e
+
+scaled_by : (u : TemporalUnit) (s : Scale) (t : Bool) → eqb (unit_length u) 0 ≡ t →
+    Some s ≡ cond t None (Some (record { length = unit_length u; dividend = dividend u })) → Scaled u s
+scaled_by u s true t e = let f : ⊥ = cc in absurd f
+scaled_by u s false t e =
+    let g : s ≡ record { length = unit_length u; dividend = dividend u } = cc in
+    let f : 0 < unit_length u = omega (arith, eqb-false (unit_length u) 0 t) in
+    record {
+      usable = (row u).by_length ∙ lt-ltb 0 (unit_length u) f;
+      some = f;
+      length_is = ap (λ (x : Scale). x.length) g;
+      dividend_is = ap (λ (x : Scale). x.dividend) g;
+    }
+
+pub scaled : (u : TemporalUnit) (s : Scale) → Some s ≡ scale_of u → Scaled u s
+unfolding scale_of
+scaled u s e = scaled_by u s (eqb (unit_length u) 0) refl e
 
 -- ---- increments
-
--- the definition's tests are the code's
-pub by_tests : (inc whole : ℕ) → validate_temporal_rounding_increment inc whole ≡ cond (eqb inc 0 || leb whole inc) false (eqb (whole % inc) 0)
-by_tests inc whole = by (eqb inc 0) (leb whole inc) refl refl
-  where
-    by : (a b : Bool) → eqb inc 0 ≡ a → leb whole inc ≡ b → validate_temporal_rounding_increment inc whole ≡ cond (a || b) false (eqb (whole % inc) 0)
-    by true b e f = rw (lt-leb 1 inc (omega (arith, eqb-true inc 0 e)))
-    by false true e f = rw (le-ltb inc whole (leb-true whole inc f)) (and_false (leb 1 inc))
-    by false false e f = rw (le-leb 1 inc (omega (arith, eqb-false inc 0 e)), lt-ltb inc whole (leb-false whole inc f))
 
 -- no increment is below a dividend of 0
 none : (inc : ℕ) → false ≡ validate_temporal_rounding_increment inc 0
@@ -104,34 +140,71 @@ increment_by_dividend U.Millisecond inc = refl
 increment_by_dividend U.Microsecond inc = refl
 increment_by_dividend U.Nanosecond inc = refl
 
-pub increment_some : (inc : ℕ) (b : Bool) → (eqb inc 0 || b) ≡ false → 0 < inc
-increment_some zero b e = clash true refl e
-increment_some (suc n) b e = omega arith
+pub allowed_is : (unit : TemporalUnit) (s : Scale) (inc : ℕ) → s.dividend ≡ dividend unit → allowed s inc ≡ valid_increment unit inc
+unfolding allowed
+allowed_is unit s inc e = rw (e, increment_by_dividend unit inc)
 
-module _ (unit : TemporalUnit) (inc whole : ℕ) (e : whole ≡ dividend unit) where
-  pub day_increment : whole ≡ 1 → eqb inc 1 ≡ valid_increment unit inc
-  day_increment h = rw (increment_by_dividend unit inc, ← e, h)
+-- ---- a checked time, and what follows
 
-  pub no_increment : (whole ≡ 1 → ⊥) → (eqb inc 0 || leb whole inc) ≡ true → false ≡ valid_increment unit inc
-  no_increment h t = rw (increment_by_dividend unit inc, ← e, ne_eqb whole 1 h, by_tests inc whole, t)
+refused_by : {A B : Type 0} (t : Bool) (n : ℕ) (a : A) (rest : Answer B) → refused n ≡ check t 1 (given a) → refused n ≡ check t 1 rest
+refused_by true n a rest e = never a n e
+refused_by false n a rest e = ap (λ x. refused (number_of x)) e
 
-  pub small_increment : (whole ≡ 1 → ⊥) → (eqb inc 0 || leb whole inc) ≡ false → eqb (whole % inc) 0 ≡ valid_increment unit inc
-  small_increment h t = rw (increment_by_dividend unit inc, ← e, ne_eqb whole 1 h, by_tests inc whole, t)
+given_by : {A : Type 0} (t : Bool) (a x : A) → given x ≡ check t 1 (given a) → (t ≡ true) × (x ≡ a)
+given_by true a x e = (refl, given_inj x a e)
+given_by false a x e = never x 1 (sym e)
+
+passed : (t x : IsoTime) → given x ≡ checked_time t → (is_valid_time t ≡ true) × (x ≡ t)
+unfolding checked_time
+passed t x e = given_by (is_valid_time t) t x e
+
+module _ (t other : IsoTime) where
+  pub diff_first : (n : ℕ) → refused n ≡ checked_time t → refused n ≡ time_difference t other
+  unfolding checked_time time_difference
+  diff_first n e = refused_by (is_valid_time t) n t _ e
+
+  module _ (x : IsoTime) (e : given x ≡ checked_time t) where
+    pub diff_second : (n : ℕ) → refused n ≡ checked_time other → refused n ≡ time_difference t other
+    unfolding checked_time time_difference
+    diff_second n f = rw (passed t x e).0 (refused_by (is_valid_time other) n other _ f)
+
+    pub diff_given : (y : IsoTime) → given y ≡ checked_time other → given (in_seconds (nanoseconds_until x y)) ≡ time_difference t other
+    unfolding time_difference difference_time
+    diff_given y f = let p = passed t x e in let q = passed other y f in rw (p.0, p.1, q.0, q.1)
+
+module _ (t : IsoTime) (unit : TemporalUnit) (inc : ℕ) (mode : RoundingMode) where
+  pub round_first : (n : ℕ) → refused n ≡ checked_time t → refused n ≡ rounded_time t unit inc mode
+  unfolding checked_time rounded_time
+  round_first n e = refused_by (is_valid_time t) n t _ e
+
+  module _ (x : IsoTime) (e : given x ≡ checked_time t) where
+    pub round_unit : scale_of unit ≡ None → refused 5 ≡ rounded_time t unit inc mode
+    unfolding rounded_time
+    round_unit f = rw ((passed t x e).0, no_scale unit f)
+
+    module _ (s : Scale) (f : Some s ≡ scale_of unit) where
+      pub round_increment : allowed s inc ≡ false → refused 6 ≡ rounded_time t unit inc mode
+      unfolding rounded_time
+      round_increment g =
+          let u = scaled unit s f in
+          rw ((passed t x e).0, u.usable, sym (allowed_is unit s inc u.dividend_is) ∙ g)
+
+      pub round_given : allowed s inc ≡ true → given (round_time x inc unit mode) ≡ rounded_time t unit inc mode
+      unfolding rounded_time
+      round_given g =
+          let u = scaled unit s f in
+          let p = passed t x e in
+          rw (p.0, p.1, u.usable, sym (allowed_is unit s inc u.dividend_is) ∙ g)
+
+-- for the calls, by name
+pub ruleset diff_laws = (diff_first, diff_second, diff_given)
+
+pub ruleset round_laws = (round_first, round_unit, round_increment)
 
 -- ---- a span in seconds and nanoseconds
 
 abbrev pub duration : ℤ → ℤ → TimeDuration
 duration s n = record { seconds = s; nanoseconds = n }
-
--- whole seconds and nanoseconds are no larger than what was cut
-pub seconds_fit : (z : ℤ) → SFits w64 z → SFits w64 (quot_z z (pos 1000000000))
-seconds_fit (pos n) f = record { sfits = omega (arith, f.sfits) }
-seconds_fit (negsuc n) f =
-    let q : ℤ = neg_ℤ (pos (suc n / 1000000000)) in
-    record { sfits = omega (arith, f.sfits, read_neg (pos (suc n / 1000000000)), range_of q) }
-
-pub nanoseconds_fit : (z : ℤ) → SFits w64 z → SFits w64 (rem_z z (pos 1000000000))
-nanoseconds_fit z f = record { sfits = omega (arith, f.sfits, mag_rem z (pos 1000000000)) }
 
 -- two nanoseconds of the day as signed numbers
 module _ (one two : ℕ) (h : one < ns_per_day) (k : two < ns_per_day) where

@@ -1,6 +1,6 @@
 -- Rounding within a field, once over unit and step.
 use Prim.Native.Nat.{ℕ, ◌+◌, ◌-◌, ◌*◌, ◌/◌, ◌%◌, ◌≤◌, ◌<◌}
-use native.Mathlib.Nat.{mod-le, mul-div_cancel, mul_assoc, mul-pos, mul-le-mul_right, le_of_lt, le_trans}
+use native.Mathlib.Nat.{lt_of_lt_of_le, mod-le, mul-div_cancel, mul_assoc, mul-pos, mul-le-mul_right, le_of_lt, le_trans}
 use native.Mathlib.Omega.{arith}
 use mathlib.Core.Path.{◌≡◌, refl, sym, ◌∙◌, ap}
 use mathlib.Core.Bool.{Bool, true, false}
@@ -18,12 +18,13 @@ use Rattle.rounding.specs.declared.RoundingMode.{RoundingMode}
 use Rattle.rounding.specs.declared.UnsignedRoundingMode.{UnsignedRoundingMode}
 use Rattle.rounding.proofs.Rounds.{number_above, rounded_multiple}
 use Rattle.iso_time.specs.Proposal.{time, is_valid_time, nanoseconds, quantity, unit_length, rounded_units, with_units, round_time, valid_increment}
-use Rattle.iso_time.specs.Inner.{Carried, dividend}
+use Rattle.iso_time.specs.Inner.{Carried, dividend, allowed}
 use Rattle.iso_time.specs.Claims.{exact}
+use Rattle.iso_time.specs.declared.inner.Scale.{Scale}
 use Rattle.iso_time.specs.declared.IsoTime.{IsoTime}
 use Rattle.iso_time.specs.declared.BalancedTime.{BalancedTime}
 use Rattle.iso_time.proofs.Times.{Valid, read_valid, balance_exact, balance_valid, one_balanced}
-use Rattle.iso_time.proofs.Checks.{row, increment_by_dividend}
+use Rattle.iso_time.proofs.Checks.{row, increment_by_dividend, Scaled, allowed_is}
 
 -- the larger fields kept and k units put in the field: so many nanoseconds, and a valid time
 with_units_lem : (unit : TemporalUnit) (t : IsoTime) (k : ℕ) → 0 < unit_length unit →
@@ -113,3 +114,25 @@ module _ (t : IsoTime) (unit : TemporalUnit) (inc : ℕ) (mode : RoundingMode) (
   round_is b n q len r rule e f g h i c =
       let k : n - q + r ≡ nanoseconds t - quantity unit t + result = rw (i, e, f, g, h) refl in
       one_balanced b (round_time t inc unit mode) (read_valid b.time c.valid) round_valid (c.exactly ∙ ap pos k ∙ sym round_exact)
+
+-- the code's way at a unit of such a scale
+module _ (x : IsoTime) (unit : TemporalUnit) (s : Scale) (u : Scaled unit s) where
+  pub next_some : 0 < s.dividend * s.length
+  next_some = rw (u.length_is, u.dividend_is) (lt_of_lt_of_le u.some (row unit).least)
+
+  pub next_most : s.dividend * s.length ≤ ns_per_day
+  next_most = rw (u.length_is, u.dividend_is) (row unit).most
+
+  module _ (inc : ℕ) (ok : allowed s inc ≡ true) where
+    granted : valid_increment unit inc ≡ true
+    granted = sym (allowed_is unit s inc u.dividend_is) ∙ ok
+
+    pub small_step : (0 < inc * s.length) × (inc * s.length ≤ ns_per_day)
+    small_step = rw u.length_is (step_some unit inc u.some granted, step_most unit inc u.some granted)
+
+    pub scaled_round : (mode : RoundingMode) → is_valid_time x ≡ true → (b : BalancedTime) (n r : ℕ) (rule : UnsignedRoundingMode) → n ≡ nanoseconds x →
+        rule ≡ get_unsigned_rounding_mode mode false → r ≡ rounded_size (n % (s.dividend * s.length)) (inc * s.length) rule →
+        Carried (n - n % (s.dividend * s.length) + r) b → b ≡ round_time x inc unit mode
+    scaled_round mode v b n r rule e f g c =
+        let q : n % (s.dividend * s.length) ≡ quantity unit x = rw (e, u.dividend_is, u.length_is) (quantity_is unit x (read_valid x v) u.some) in
+        round_is x unit inc mode u.some granted b n (n % (s.dividend * s.length)) s.length r rule e q u.length_is f g c

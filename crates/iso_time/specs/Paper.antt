@@ -1,6 +1,6 @@
 -- What the calls on times answer, for every input: the checks in their order with their numbers, then the answer.
 use Rattle.std.specs.Prelude.{ℕ, Bool, ◌&&◌, leb, ℤ, nat_abs}
-use Rattle.refusal.specs.Answer.{Answer, given, refused, check}
+use Rattle.refusal.specs.Answer.{Answer, given, check}
 use Rattle.options.specs.declared.Overflow.{Overflow}
 use Rattle.options.specs.declared.Overflow.TheVariants.{Constrain, Reject}
 use Rattle.options.specs.declared.Unit.{Unit as TemporalUnit}
@@ -10,26 +10,6 @@ use Rattle.iso_time.specs.Proposal.{is_valid_time, constrain_time, balance_time,
 use Rattle.iso_time.specs.declared.IsoTime.{IsoTime}
 use Rattle.iso_time.specs.declared.BalancedTime.{BalancedTime}
 use Rattle.iso_time.specs.declared.TimeDuration.{TimeDuration}
-use Rattle.iso_time.specs.declared.TimeResult.{TimeResult}
-use Rattle.iso_time.specs.declared.TimeResult.TheVariants as T
-use Rattle.iso_time.specs.declared.BalanceResult.{BalanceResult}
-use Rattle.iso_time.specs.declared.BalanceResult.TheVariants as B
-use Rattle.iso_time.specs.declared.SpanResult.{SpanResult}
-use Rattle.iso_time.specs.declared.SpanResult.TheVariants as S
-
--- ---- each enum's cases as number and values
-
-abbrev pub of_time : TimeResult → Answer IsoTime
-of_time (T.Time t) = given t
-of_time (T.Refused n) = refused n
-
-abbrev pub of_balance : BalanceResult → Answer BalancedTime
-of_balance (B.Balanced b) = given b
-of_balance (B.Refused n) = refused n
-
-abbrev pub of_span : SpanResult → Answer TimeDuration
-of_span (S.Span d) = given d
-of_span (S.Refused n) = refused n
 
 -- ---- time records
 

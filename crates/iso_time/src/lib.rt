@@ -3,16 +3,18 @@
 
 pub mod inner;
 
-ghost use Rattle.std.specs.Prelude.{◌≡◌, min};
+ghost use Rattle.std.specs.Prelude.{◌≡◌};
+ghost use Rattle.refusal.specs.Refusals.{answer_of};
 ghost use Rattle.iso_time.specs.Proposal.{time, is_valid_time, constrain_time};
-ghost use Rattle.iso_time.specs.Paper.{of_time, of_balance, of_span, bounded, all_bounded};
 ghost use Rattle.iso_time.specs.Paper.{regulate_time, balance_time_fields, time_difference, rounded_time};
 
+use inner::ValidTime;
 use options::{Overflow, Unit};
+use refusal::Refusal;
 use rounding::RoundingMode;
 
 // A time's fields. Any numbers may stand in them; each call that takes a record checks it.
-#[derive(Clone, Copy)]
+#[derive(Clone, Copy, Debug, PartialEq, Eq)]
 pub struct IsoTime {
     pub hour: u8,
     pub minute: u8,
@@ -23,105 +25,53 @@ pub struct IsoTime {
 }
 
 // A time with the days that were carried.
-#[derive(Clone, Copy)]
+#[derive(Clone, Copy, Debug, PartialEq, Eq)]
 pub struct BalancedTime {
     pub days: i64,
     pub time: IsoTime,
 }
 
 // Whole seconds and the nanoseconds below one, neither opposed in sign to the other.
-#[derive(Clone, Copy)]
+#[derive(Clone, Copy, Debug, PartialEq, Eq)]
 pub struct TimeDuration {
     pub seconds: i64,
     pub nanoseconds: i64,
 }
 
-#[derive(Clone, Copy)]
-pub enum TimeResult {
-    Time(IsoTime),
-    Refused(u8),
-}
-
-#[derive(Clone, Copy)]
-pub enum BalanceResult {
-    Balanced(BalancedTime),
-    Refused(u8),
-}
-
-#[derive(Clone, Copy)]
-pub enum SpanResult {
-    Span(TimeDuration),
-    Refused(u8),
-}
-
 // The largest size of a field to be balanced, 2^53 - 1.
-const MOST_FIELD: i64 = 9_007_199_254_740_991;
-
-fn least8(a: u8, b: u8) -> u8
-    ensures { result ≡ min a b }
-{
-    if b < a { b } else { a }
-}
-
-fn least16(a: u16, b: u16) -> u16
-    ensures { result ≡ min a b }
-{
-    if b < a { b } else { a }
-}
-
-// Each field moved to the nearest that is valid.
-fn constrain(t: IsoTime) -> IsoTime
-    ensures { result ≡ constrain_time t }
-{
-    IsoTime {
-        hour: least8(23, t.hour),
-        minute: least8(59, t.minute),
-        second: least8(59, t.second),
-        millisecond: least16(999, t.millisecond),
-        microsecond: least16(999, t.microsecond),
-        nanosecond: least16(999, t.nanosecond),
-    }
-}
-
-// Whether a field to be balanced is within its bound.
-fn is_bounded(x: i64) -> bool
-    ensures { result ≡ bounded x }
-{
-    (-MOST_FIELD <= x) & (x <= MOST_FIELD)
-}
-
-fn are_bounded(
-    hour: i64,
-    minute: i64,
-    second: i64,
-    millisecond: i64,
-    microsecond: i64,
-    nanosecond: i64,
-) -> bool
-    ensures { result ≡ all_bounded hour minute second millisecond microsecond nanosecond }
-{
-    is_bounded(hour)
-        & is_bounded(minute)
-        & is_bounded(second)
-        & is_bounded(millisecond)
-        & is_bounded(microsecond)
-        & is_bounded(nanosecond)
-}
+const MOST_FIELD: u64 = 9_007_199_254_740_991;
 
 impl IsoTime {
     // Whether every field is within its range.
+    #[tactic(auto, unfolding(crate::specs::Proposal::is_valid_time))]
     pub fn is_valid(self) -> bool
         ensures { result ≡ is_valid_time self }
     {
-        (self.hour <= 23)
-            & (self.minute <= 59)
-            & (self.second <= 59)
-            & (self.millisecond <= 999)
-            & (self.microsecond <= 999)
-            & (self.nanosecond <= 999)
+        self.hour <= 23
+            && self.minute <= 59
+            && self.second <= 59
+            && self.millisecond <= 999
+            && self.microsecond <= 999
+            && self.nanosecond <= 999
+    }
+
+    // Each field moved to the nearest that is valid.
+    #[tactic(auto, unfolding(crate::specs::Proposal::constrain_time))]
+    fn constrained(self) -> IsoTime
+        ensures { result ≡ constrain_time self }
+    {
+        IsoTime {
+            hour: self.hour.min(23),
+            minute: self.minute.min(59),
+            second: self.second.min(59),
+            millisecond: self.millisecond.min(999),
+            microsecond: self.microsecond.min(999),
+            nanosecond: self.nanosecond.min(999),
+        }
     }
 
     // The fields made valid: constrained, or 1 under reject where they are not.
+    #[tactic(auto, unfolding(crate::specs::Paper::regulate_time, crate::specs::Inner::checked_time))]
     pub fn new(
         hour: u8,
         minute: u8,
@@ -130,8 +80,8 @@ impl IsoTime {
         microsecond: u16,
         nanosecond: u16,
         overflow: Overflow,
-    ) -> TimeResult
-        ensures { of_time result ≡ regulate_time (time hour minute second millisecond microsecond nanosecond) overflow }
+    ) -> Result<IsoTime, Refusal>
+        ensures { answer_of result ≡ regulate_time (time hour minute second millisecond microsecond nanosecond) overflow }
     {
         let fields = IsoTime {
             hour,
@@ -142,18 +92,13 @@ impl IsoTime {
             nanosecond,
         };
         match overflow {
-            Overflow::Constrain => TimeResult::Time(constrain(fields)),
-            Overflow::Reject => {
-                if fields.is_valid() {
-                    TimeResult::Time(fields)
-                } else {
-                    TimeResult::Refused(refusal::FIELD)
-                }
-            }
+            Overflow::Constrain => Ok(fields.constrained()),
+            Overflow::Reject => Ok(ValidTime::new(fields)?.time),
         }
     }
 
-    // Six fields of any size up to 9,007,199,254,740,991 (else 7) as a carry in days and a time, rounded down.
+    // Six fields of any size up to 9,007,199,254,740,991 (else 7) as a carry in days and a time: what is too much in a field is carried
+    // into the next, rounded down.
     pub fn balance(
         hour: i64,
         minute: i64,
@@ -161,48 +106,61 @@ impl IsoTime {
         millisecond: i64,
         microsecond: i64,
         nanosecond: i64,
-    ) -> BalanceResult
-        ensures { of_balance result ≡ balance_time_fields hour minute second millisecond microsecond nanosecond }
+    ) -> Result<BalancedTime, Refusal>
+        ensures { answer_of result ≡ balance_time_fields hour minute second millisecond microsecond nanosecond }
     {
-        if !are_bounded(hour, minute, second, millisecond, microsecond, nanosecond) {
-            return BalanceResult::Refused(refusal::BOUND);
+        let fields = [hour, minute, second, millisecond, microsecond, nanosecond];
+        if !fields.iter().all(|x| x.unsigned_abs() <= MOST_FIELD) {
+            return Err(Refusal::Bound);
         }
-        BalanceResult::Balanced(inner::balance(
-            hour,
-            minute,
-            second,
-            millisecond,
-            microsecond,
-            nanosecond,
-        ))
+        let micros = microsecond + nanosecond.div_euclid(1000);
+        let millis = millisecond + micros.div_euclid(1000);
+        let seconds = second + millis.div_euclid(1000);
+        let minutes = minute + seconds.div_euclid(60);
+        let hours = hour + minutes.div_euclid(60);
+        Ok(BalancedTime {
+            days: hours.div_euclid(24),
+            time: IsoTime {
+                hour: hours.rem_euclid(24) as u8,
+                minute: minutes.rem_euclid(60) as u8,
+                second: seconds.rem_euclid(60) as u8,
+                millisecond: millis.rem_euclid(1000) as u16,
+                microsecond: micros.rem_euclid(1000) as u16,
+                nanosecond: nanosecond.rem_euclid(1000) as u16,
+            },
+        })
     }
 
     // The span from this time to another: the fields of each (1), then whole seconds and nanoseconds, cut towards zero.
-    pub fn diff(self, other: IsoTime) -> SpanResult
-        ensures { of_span result ≡ time_difference self other }
+    #[tactic(auto, using(crate::proofs::Checks::diff_laws))]
+    pub fn diff(self, other: IsoTime) -> Result<TimeDuration, Refusal>
+        ensures { answer_of result ≡ time_difference self other }
     {
-        if !self.is_valid() {
-            return SpanResult::Refused(refusal::FIELD);
-        }
-        if !other.is_valid() {
-            return SpanResult::Refused(refusal::FIELD);
-        }
-        SpanResult::Span(inner::span(inner::nanoseconds_of(self), inner::nanoseconds_of(other)))
+        let one = ValidTime::new(self)?;
+        let two = ValidTime::new(other)?;
+        Ok(inner::span(one.nanoseconds(), two.nanoseconds()))
     }
 
     // The time rounded at a unit, with the day that may be carried: fields (1), a unit above day (5), an increment that is not allowed (6).
-    pub fn round(self, unit: Unit, increment: u64, mode: RoundingMode) -> BalanceResult
-        ensures { of_balance result ≡ rounded_time self unit increment mode }
+    // The larger fields stay: what the next larger unit leaves is taken out of the time, rounded, and put back.
+    #[tactic(auto, using(crate::proofs::Checks::round_laws))]
+    pub fn round(
+        self,
+        unit: Unit,
+        increment: u64,
+        mode: RoundingMode,
+    ) -> Result<BalancedTime, Refusal>
+        ensures { answer_of result ≡ rounded_time self unit increment mode }
     {
-        if !self.is_valid() {
-            return BalanceResult::Refused(refusal::FIELD);
+        let time = ValidTime::new(self)?;
+        let scale = inner::scale_of(unit).ok_or(Refusal::Unit)?;
+        if !scale.allows(increment) {
+            return Err(Refusal::Increment);
         }
-        if inner::length_of(unit) == 0 {
-            return BalanceResult::Refused(refusal::UNIT);
-        }
-        if !inner::is_increment(unit, increment) {
-            return BalanceResult::Refused(refusal::INCREMENT);
-        }
-        BalanceResult::Balanced(inner::round(self, unit, increment, mode))
+        let n = time.nanoseconds();
+        let quantity = n % (scale.dividend * scale.length);
+        let rule = rounding::inner::get_unsigned_round_mode(mode, false);
+        let rounded = rounding::inner::round_small(quantity, increment * scale.length, rule);
+        Ok(inner::carried(n - quantity + rounded))
     }
 }

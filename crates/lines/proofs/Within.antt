@@ -1,34 +1,19 @@
--- Which numbers lie between two bounds, the lower one at most 0.
-use Prim.Native.Nat.{ℕ, ◌≤◌, ◌<◌}
-use native.Mathlib.Omega.{arith}
-use mathlib.Core.Path.{◌≡◌, refl}
-use mathlib.Core.Bool.{true, false}
-use lib.IntN.{pos, negsuc, neg_ℤ}
+-- Which numbers lie between two bounds.
+use Rattle.std.proofs.Common.{◌≡◌, Bool, true, false, ◌&&◌, ℤ}
+use Rattle.std.specs.Prelude.{Option, Some, None, MatchOption}
+use Rattle.std.specs.Bool.{then_some}
 use lib.Signed.{le_z}
-use Rattle.whole.proofs.Laws.{ints, read_neg}
-use Rattle.lines.specs.Text.{number, none, within}
-use Rattle.lines.proofs.Numbers.{never}
+use Rattle.lines.specs.Text.{number, within}
+use Rattle.lines.specs.Meaning.{of_number}
 
-module _ (below high n : ℕ) where
-  pub above_high : high < n → within (neg_ℤ (pos below)) (pos high) (number (pos n)) ≡ none
-  unfolding within
-  above_high h = let f : le_z (pos n) (pos high) ≡ false = omega (arith, ints) in rw f (never (le_z (neg_ℤ (pos below)) (pos n)) (number (pos n)))
-
-  pub upto_high : n ≤ high → within (neg_ℤ (pos below)) (pos high) (number (pos n)) ≡ number (pos n)
-  unfolding within
-  upto_high h =
-      let f : le_z (neg_ℤ (pos below)) (pos n) ≡ true = omega (arith, ints, read_neg (pos below)) in
-      let g : le_z (pos n) (pos high) ≡ true = omega (arith, ints) in
-      rw (f, g)
-
-  pub below_low : below ≤ n → within (neg_ℤ (pos below)) (pos high) (number (negsuc n)) ≡ none
-  unfolding within
-  below_low h = let f : le_z (neg_ℤ (pos below)) (negsuc n) ≡ false = omega (arith, ints, read_neg (pos below)) in rw f
-
-  pub upto_low : n < below → within (neg_ℤ (pos below)) (pos high) (number (negsuc n)) ≡ number (negsuc n)
-  unfolding within
-  upto_low h = let f : le_z (neg_ℤ (pos below)) (negsuc n) ≡ true = omega (arith, ints, read_neg (pos below)) in rw f
-
-pub none_within : (below high : ℕ) → within (neg_ℤ (pos below)) (pos high) none ≡ none
+kept_by : (low high n : ℤ) (b : Bool) → b ≡ (le_z low n && le_z n high) → of_number (then_some b n) ≡ within low high (number n)
 unfolding within
-none_within below high = refl
+kept_by low high n true e = rw (← e)
+kept_by low high n false e = rw (← e)
+
+-- what `filter` keeps, where its closure says whether a number lies between the bounds
+pub kept_within : (low high : ℤ) (x r : Option ℤ) (Says : ℤ → Bool → Type 0) → ((n : ℤ) (b : Bool) → Says n b → b ≡ (le_z low n && le_z n high)) →
+    MatchOption x (r ≡ None) (λ n. (b : Bool) × Says n b × (r ≡ then_some b n)) → of_number r ≡ within low high (of_number x)
+unfolding within
+kept_within low high None r Says f e = rw e
+kept_within low high (Some n) r Says f e = rw e.2 (kept_by low high n e.0 (f n e.0 e.1))

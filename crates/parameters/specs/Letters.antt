@@ -1,9 +1,6 @@
--- The types of parameters as the letters that the code has for them, and the numbers as the code keeps them.
-use Rattle.std.specs.Prelude.{ℕ, ◌-◌, ◌^◌, Bool, true, false, cond, List, [], ◌∷◌, eqb, pos, neg_ℤ}
-use Rattle.lines.specs.declared.Number.{Number}
-use Rattle.lines.specs.declared.Number.TheVariants as N
+-- The types of parameters as the letters that the code has for them.
+use Rattle.std.specs.Prelude.{ℕ, ◌-◌, ◌^◌, cond, List, [], ◌∷◌, eqb, pos, neg_ℤ}
 use Rattle.parameters.specs.Kinds.{Kind}
-use Rattle.parameters.specs.declared.Cell.{Cell}
 use Rattle.parameters.specs.declared.Bounds.{Bounds}
 
 abbrev bounds : ℕ → ℕ → Bounds
@@ -27,13 +24,3 @@ letter_kind letter = record { low = neg_ℤ (pos (bounds_of letter).below); high
 unfoldable pub letters_kinds : List ℕ → List Kind
 letters_kinds [] = []
 letters_kinds (l ∷ ls) = letter_kind l ∷ letters_kinds ls
-
-abbrev pub is_number : Number → Bool
-is_number (N.Plus n) = true
-is_number (N.Minus n) = true
-is_number N.Not = false
-
-abbrev pub cell_of : Number → Cell
-cell_of (N.Plus n) = record { negative = false; size = n }
-cell_of (N.Minus n) = record { negative = true; size = n }
-cell_of N.Not = record { negative = false; size = 0 }

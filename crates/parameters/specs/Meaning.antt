@@ -1,31 +1,19 @@
--- What the records of the code mean: a number, the numbers of a request, and that they are of their parameters' types.
-use Rattle.std.specs.Prelude.{ℕ, ◌-◌, ◌≤◌, ◌≡◌, false, cond, List, [], ◌∷◌, ℤ, pos, negsuc, nat_abs, length, get_or, take, drop, replicate, ◌≤ℤ◌}
+-- What the numbers of a request mean, as the code keeps them, and that they are of their parameters' types.
+use Rattle.std.specs.Prelude.{ℕ, ◌≡◌, List, [], ◌∷◌, Option, Some, None, ℤ, pos, nat_abs, get_or, drop, ◌≤ℤ◌}
+use Rattle.arrayvec.specs.ArrayVec.{ArrayVec}
 use Rattle.parameters.specs.Kinds.{Kind, Arguments, these, no_arguments}
-use Rattle.parameters.specs.declared.Cell.{Cell}
-use Rattle.parameters.specs.declared.Numbers.{Numbers}
 
--- negsuc n is -1 - n
-abbrev pub cell_number : Cell → ℤ
-cell_number c = cond c.negative (negsuc c.size) (pos c.size)
+abbrev pub numbers_in : ArrayVec ℤ → List ℤ
+numbers_in n = n.items
 
-abbrev pub cell_numbers : List Cell → List ℤ
-cell_numbers [] = []
-cell_numbers (c ∷ cs) = cell_number c ∷ cell_numbers cs
+-- the numbers of a line, or that it is no request
+abbrev pub of_numbers : Option (ArrayVec ℤ) → Arguments
+of_numbers (Some n) = these (numbers_in n)
+of_numbers None = no_arguments
 
-unfoldable pub numbers_in : Numbers → List ℤ
-numbers_in n = cell_numbers (take n.count n.cells)
-
--- a cell that no number was put into
-abbrev pub blank : Cell
-blank = record { negative = false; size = 0 }
-
--- what was read of a line, with room for it; the cells past the numbers are blank
-pub record Reads (n : Numbers) (a : Arguments) : Type 0 where
-  pub reads_as : cond n.known (these (numbers_in n)) no_arguments ≡ a
-  pub count_fits : n.count ≤ 24
-  pub sized : length n.cells ≡ 24
-  pub others_blank : drop n.count n.cells ≡ replicate (24 - n.count) blank
-  pub none_counted : n.known ≡ false → n.count ≡ 0
+-- what was read of a line
+pub record Reads (r : Option (ArrayVec ℤ)) (a : Arguments) : Type 0 where
+  pub reads_as : of_numbers r ≡ a
 
 -- the i-th number, from 0, and its size
 abbrev pub at : List ℤ → ℕ → ℤ
@@ -41,6 +29,5 @@ Are (k ∷ ks) [] = ⊥
 Are (k ∷ ks) (z ∷ zs) = ((k.low ≤ℤ z) × (z ≤ℤ k.high)) × Are ks zs
 
 -- from the i-th on, the numbers are of the types
-pub record Holds (ks : List Kind) (n : Numbers) (i : ℕ) : Type 0 where
-  pub are : Are ks (drop i (numbers_in n))
-  pub room : n.count ≤ 24
+pub record Holds (ks : List Kind) (zs : List ℤ) (i : ℕ) : Type 0 where
+  pub are : Are ks (drop i zs)

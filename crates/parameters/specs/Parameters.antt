@@ -1,5 +1,5 @@
 -- The parameters of calls: their types, and the values that the numbers of a request stand for.
-use Rattle.std.specs.Prelude.{ℕ, ◌+◌, cond, List, [], ◌∷◌, ◌++◌, eqb, get_or, ℤ, nat_abs}
+use Rattle.std.specs.Prelude.{ℕ, ◌+◌, cond, List, [], ◌∷◌, ◌++◌, eqb, get_or, Option, Some, None, ℤ, nat_abs}
 use Rattle.iso_date.specs.Proposal.{date}
 use Rattle.iso_date.specs.declared.IsoDate.{IsoDate}
 use Rattle.iso_time.specs.Proposal.{time}
@@ -8,8 +8,6 @@ use Rattle.iso_date_time.specs.Proposal.{date_time}
 use Rattle.iso_date_time.specs.declared.IsoDateTime.{IsoDateTime}
 use Rattle.date_duration.specs.Proposal.{duration}
 use Rattle.date_duration.specs.declared.DateDuration.{DateDuration}
-use Rattle.date_duration.specs.declared.Part.{Part}
-use Rattle.date_duration.specs.declared.Part.TheVariants as P
 use Rattle.options.specs.declared.Overflow.{Overflow}
 use Rattle.options.specs.declared.Overflow.TheVariants.{Constrain, Reject}
 use Rattle.options.specs.declared.Unit.{Unit as TemporalUnit}
@@ -84,5 +82,5 @@ mode_of z = get_or modes (nat_abs z) M.Ceil
 abbrev pub duration_at : List ℤ → ℕ → DateDuration
 duration_at zs i = duration (at zs i) (at zs (i + 1)) (at zs (i + 2)) (at zs (i + 3))
 
-abbrev pub part_at : List ℤ → ℕ → Part
-part_at zs i = cond (eqb (nat_at zs i) 0) P.Kept (P.Given (at zs (i + 1)))
+abbrev pub part_at : List ℤ → ℕ → Option ℤ
+part_at zs i = cond (eqb (nat_at zs i) 0) None (Some (at zs (i + 1)))

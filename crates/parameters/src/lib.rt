@@ -3,23 +3,13 @@
 
 pub mod inner;
 
-// One number: a natural, or how far a negative number lies below -1.
-#[derive(Clone, Copy)]
-pub struct Cell {
-    pub negative: bool,
-    pub size: u64,
-}
+use arrayvec::ArrayVec;
 
-// The numbers of a request: the first `count` of the cells; or, where `known` is false, none, as the line is no request.
-#[derive(Clone, Copy)]
-pub struct Numbers {
-    pub known: bool,
-    pub count: usize,
-    pub cells: [Cell; 24],
-}
+// The numbers of a request, one for each parameter of its call.
+pub type Numbers = ArrayVec<i128, 24>;
 
 // The numbers that a parameter takes: so many below zero, and from zero to the highest.
-#[derive(Clone, Copy)]
+#[derive(Clone, Copy, Debug, PartialEq, Eq)]
 pub struct Bounds {
     pub below: u64,
     pub high: u64,

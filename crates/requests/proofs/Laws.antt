@@ -1,63 +1,87 @@
--- The table of the calls: which name and letters stand at a place, which call a name is, and what answers a line then.
-use Prim.Native.Nat.{ℕ, zero, suc, ◌+◌, ◌*◌, ◌≤◌, ◌<◌}
-use native.Mathlib.Numerals.{add-one}
-use native.Mathlib.Omega.{arith}
-use mathlib.Core.Path.{◌≡◌, refl, sym, ap, subst, ◌∙◌}
-use mathlib.Core.Bool.{Bool, true, false, cond, ◌&&◌}
-use mathlib.Core.List.{List, [], ◌∷◌}
+-- The rows of the code are those of the contract's table; which entry has a name, and what answers a line then.
+use Rattle.std.proofs.Common.{ℕ, ℤ, zero, suc, ◌+◌, ◌≤◌, ◌<◌, ◌≡◌, refl, sym, ap, ◌∙◌, arith, Bool, true, false, cond, ◌&&◌, List, [], ◌∷◌, length, take, drop, map, get_or}
+use Rattle.std.proofs.Common.{Bor, Option, Some, None, MatchOption, Decides}
+use Rattle.std.specs.List.{find}
+use Rattle.std.specs.Option.{option_map}
+use Rattle.std.specs.Str.{bytes_eq}
 use borrow.Author.Tests.{le-leb, lt-leb, leb-true}
 use lib.Dec.{leb}
-use lib.IntN.{ℤ}
-use lib.ListN.{length, take, drop, get_or, length-drop, drop_of_length-le}
-use lib.Seq.{drop-cons, drop-drop, get_or-drop}
 use Rattle.whole.proofs.Tests.{both, clash}
-use Rattle.lines.specs.Text.{word, rest, space, spaceless, same_bytes}
-use Rattle.lines.proofs.Words.{word_start, rest_start_lem, rest_first, word_of_start, same_yes, same_no}
-use Rattle.parameters.specs.Kinds.{Kind, Arguments, these, no_arguments, arguments}
+use Rattle.lines.specs.Text.{word, rest, same_bytes}
+use Rattle.std.proofs.lemmas.Slice.Eq.{bytes_eq-Decides}
+use Rattle.lines.proofs.Words.{same_yes, same_no, word_start, rest_start_lem}
+use Rattle.parameters.specs.Kinds.{Kind, arguments}
 use Rattle.parameters.specs.Letters.{letters_kinds}
 use Rattle.parameters.specs.Meaning.{Reads, numbers_in}
-use Rattle.parameters.specs.declared.Numbers.{Numbers}
-use Rattle.replies.specs.Replies.{reply_text, question, Replied}
+use Rattle.arrayvec.specs.ArrayVec.{ArrayVec}
+use Rattle.replies.specs.Replies.{reply_text, question}
 use Rattle.calls.specs.Table.{Row, calls, text_calls, bytes, no_row, place_in}
+use Rattle.parameters.proofs.Laws.{holds_all}
 use Rattle.calls.specs.Ready.{Ready}
 use Rattle.requests.specs.Requests.{reply_with, reply_by, reply_to, line_room}
+use Rattle.requests.specs.Entries.{place_of_call, row_of, Named}
+use Rattle.requests.specs.declared.inner.Entry.{Entry}
 use Rattle.text_calls.specs.Texts.{reply_by_text}
-use Rattle.requests.specs.Layout.{name_room, row_room, column, kinds_in, names_of, taken_by, Spells}
 
--- ---- the name and the letters at a place of the table
+-- ---- the rows of the code
 
-column_at : (n place : ℕ) (text : List ℕ) → place < n → get_or (column n text) place [] ≡ word (drop (row_room * place) text)
-column_at zero place text h = let f : ⊥ = omega arith in absurd f
-column_at (suc n) zero text h = refl
-column_at (suc n) (suc place) text h =
-    let e : row_room + row_room * place ≡ row_room * suc place = omega arith in
-    column_at n place (drop row_room text) (omega arith) ∙ ap word (drop-drop (row_room * place) row_room text ∙ ap (λ (k : ℕ). drop k text) e)
+-- what a row of the code says of its call: the name, the parameters and the place in the contract's table
+abbrev pub seen : Entry → List ℕ × (List Kind × ℕ)
+seen entry = (entry.name.now, (letters_kinds entry.letters.now, place_of_call entry.call))
 
-names_at : (rs : List Row) (place : ℕ) → get_or (names_of rs) place [] ≡ bytes (get_or rs place no_row).name
-names_at [] zero = refl
-names_at [] (suc place) = refl
-names_at (r ∷ rs) zero = refl
-names_at (r ∷ rs) (suc place) = names_at rs place
+-- and what the rows of that table say, the first of them at the k-th place
+unfoldable pub wanted : ℕ → List Row → List (List ℕ × (List Kind × ℕ))
+wanted k [] = []
+wanted k (r ∷ rs) = (bytes r.name, (r.takes, k)) ∷ wanted (suc k) rs
 
-taken_at : (rs : List Row) (place : ℕ) → get_or (taken_by rs) place [] ≡ (get_or rs place no_row).takes
-taken_at [] zero = refl
-taken_at [] (suc place) = refl
-taken_at (r ∷ rs) zero = refl
-taken_at (r ∷ rs) (suc place) = taken_at rs place
+same_by : (t : Bool) (a b : List ℕ) → Decides t (a ≡ b) → same_bytes b a ≡ t
+same_by true a b d = same_yes b a (sym (d.0 refl))
+same_by false a b d = same_no b a (λ e. clash false (d.1 (sym e)) refl)
 
-kinds_at : (ws : List (List ℕ)) (place : ℕ) → letters_kinds (get_or ws place []) ≡ get_or (kinds_in ws) place []
-unfolding letters_kinds
-kinds_at [] zero = refl
-kinds_at [] (suc place) = refl
-kinds_at (w ∷ ws) zero = refl
-kinds_at (w ∷ ws) (suc place) = kinds_at ws place
+record At (k : ℕ) (rs : List Row) (name : List ℕ) (entry : Entry) : Type 0 where
+  known : place_in rs name < length rs
+  place : k + place_in rs name ≡ place_of_call entry.call
+  letters : letters_kinds entry.letters.now ≡ (get_or rs (place_in rs name) no_row).takes
+
+module _ (name : List ℕ) where
+  step : (t : Bool) (k : ℕ) (entry : Entry) (r : Row) (rs : List Row) (found : Option Entry) → same_bytes name (bytes r.name) ≡ t →
+      seen entry ≡ (bytes r.name, (r.takes, k)) → MatchOption found (place_in rs name ≡ length rs) (λ x. At (suc k) rs name x) →
+      MatchOption (cond t (Some entry) found) (place_in (r ∷ rs) name ≡ length (r ∷ rs)) (λ x. At k (r ∷ rs) name x)
+  unfolding place_in
+  step true k entry r rs found e s h =
+      record { known = rw e (omega arith); place = rw e (omega (arith, ap (λ x. x.1.1) s)); letters = rw e (ap (λ x. x.1.0) s) }
+  step false k entry r rs None e s h = rw e (ap suc h)
+  step false k entry r rs (Some x) e s h =
+      record { known = rw e (omega (arith, h.known)); place = rw e (omega (arith, h.place)); letters = rw e h.letters }
+
+  finds : (k : ℕ) (entries : List Entry) (rs : List Row) → map seen entries ≡ wanted k rs →
+      MatchOption (find (λ entry. bytes_eq entry.name.now name) entries) (place_in rs name ≡ length rs) (λ x. At k rs name x)
+  unfolding wanted place_in
+  finds k [] [] e = refl
+  finds k [] (r ∷ rs) e = absurd cc
+  finds k (entry ∷ entries) [] e = absurd cc
+  finds k (entry ∷ entries) (r ∷ rs) e =
+      let s : seen entry ≡ (bytes r.name, (r.takes, k)) = cc in
+      let t : bytes_eq entry.name.now name ≡ same_bytes name (bytes r.name) = sym (same_by (bytes_eq entry.name.now name) entry.name.now name (bytes_eq-Decides entry.name.now name)) ∙ ap (same_bytes name) (ap (λ x. x.0) s) in
+      let others : map seen entries ≡ wanted (suc k) rs = cc in
+      rw t (step (same_bytes name (bytes r.name)) k entry r rs (find (λ x. bytes_eq x.name.now name) entries) refl s (finds (suc k) entries rs others))
+
+  pub named : (entries : List Entry) → map seen entries ≡ wanted 0 calls → (found : Option (Bor Entry)) →
+      option_map (λ x. x.now) found ≡ find (λ entry. bytes_eq entry.name.now name) entries →
+      MatchOption found (place_in calls name ≡ length calls) (λ entry. Named name entry.now)
+  named entries s None e = rw (← e) at (finds 0 entries calls s)
+  named entries s (Some entry) e =
+      let h : At 0 calls name entry.now = rw (← e) at (finds 0 entries calls s) in
+      let p : place_in calls name ≡ place_of_call entry.now.call = omega (arith, h.place) in
+      record { known = h.known; place = p; letters = rw p at h.letters }
+
+-- ---- a call has at most 24 parameters
 
 as_many : (letters : List ℕ) → length (letters_kinds letters) ≡ length letters
 unfolding letters_kinds
 as_many [] = refl
 as_many (l ∷ ls) = ap suc (as_many ls)
 
--- a call has at most 24 parameters
 few : List Row → Bool
 few [] = true
 few (r ∷ rs) = leb (length r.takes) 24 && few rs
@@ -73,98 +97,9 @@ all_few : few calls ≡ true
 unfolding few
 all_few = refl
 
-module _ (table : List ℕ) (s : Spells table) (place : ℕ) (known : place < length calls) where
-  pub name_there : word (drop (row_room * place) table) ≡ bytes (get_or calls place no_row).name
-  name_there = sym (column_at (length calls) place table known) ∙ ap (λ (l : List (List ℕ)). get_or l place []) s.names ∙ names_at calls place
-
-  abbrev start : ℕ
-  start = row_room * place + name_room
-
-  pub letters_there : letters_kinds (word (drop start table)) ≡ (get_or calls place no_row).takes
-  letters_there =
-      let e : name_room + row_room * place ≡ start = omega arith in
-      ap (λ (k : ℕ). letters_kinds (word (drop k table))) (sym e) ∙ ap (λ (l : List ℕ). letters_kinds (word l))
-      (sym (drop-drop (row_room * place) name_room table)) ∙
-      ap letters_kinds (sym (column_at (length calls) place (drop name_room table) known)) ∙ kinds_at (column (length calls) (drop name_room table)) place ∙
-      ap (λ (l : List (List Kind)). get_or l place []) s.letters ∙ taken_at calls place
-
-  pub few_letters : length (word (drop start table)) ≤ 24
-  few_letters = omega (arith, as_many (word (drop start table)), ap length letters_there, few_at calls place all_few)
-
-  pub start_inside : start ≤ length table
-  start_inside = omega (arith, s.sized)
-
--- ---- a name that stands at a place
-
-module _ (table name : List ℕ) (at : ℕ) (inside : at + length name < length table) (plain : spaceless name ≡ true) where
-  pub ends_otherwise : (get_or table (at + length name) 0 ≡ space → ⊥) → same_bytes name (word (drop at table)) ≡ false
-  ends_otherwise n = same_no name (word (drop at table)) (λ e. n (space_there e))
-    where
-      space_there : name ≡ word (drop at table) → get_or table (at + length name) 0 ≡ space
-      space_there e =
-          let d : drop (at + length name) table ≡ rest (drop at table) = sym (drop-drop (length name) at table) ∙
-          ap (λ (k : ℕ). drop k (drop at table)) (ap length e) ∙ rest_start_lem (drop at table) in
-          let l : 0 < length (rest (drop at table)) = omega (arith, ap length d, length-drop (at + length name) table) in
-          let f : get_or table (at + length name + 0) 0 ≡ get_or (rest (drop at table)) 0 0 = sym (get_or-drop (at + length name) table 0 0) ∙
-          ap (λ (k : List ℕ). get_or k 0 0) d in
-          let g : at + length name + 0 ≡ at + length name = omega arith in
-          (rw g at f) ∙ rest_first (drop at table) l
-
-  pub same_there : (r : Bool) → get_or table (at + length name) 0 ≡ space → (r ≡ true → name ≡ take (length name) (drop at table)) →
-      (name ≡ take (length name) (drop at table) → r ≡ true) →
-      r ≡ same_bytes name (word (drop at table))
-  same_there r gap so back = go r refl
-    where
-      go : (t : Bool) → r ≡ t → r ≡ same_bytes name (word (drop at table))
-      go true e = e ∙ sym (same_yes name (word (drop at table)) (sym (word_of_start name (drop at table) plain (sym (so e))
-          (get_or-drop at table (length name) 0 ∙ gap))))
-      go false e = e ∙ sym (same_no name (word (drop at table))
-          (λ f. clash r (back (f ∙ sym (word_start (drop at table)) ∙ ap (λ (k : ℕ). take k (drop at table)) (ap length (sym f)))) e))
-
--- ---- the place of a name among the rows
-
-module _ (rs : List Row) (place : ℕ) (name : List ℕ) (known : place < length rs) where
-  split_off : drop place rs ≡ get_or rs place no_row ∷ drop (place + 1) rs
-  split_off = rw (add-one place, drop-cons rs place no_row known)
-
-  pub place_here : true ≡ same_bytes name (bytes (get_or rs place no_row).name) → place_in (drop place rs) name ≡ 0
-  unfolding place_in
-  place_here e = rw (split_off, ← e)
-
-  pub place_later : false ≡ same_bytes name (bytes (get_or rs place no_row).name) → place_in (drop place rs) name ≡ suc (place_in (drop (place + 1) rs) name)
-  unfolding place_in
-  place_later e = rw (split_off, ← e)
-
-pub place_past : (rs : List Row) (place : ℕ) (name : List ℕ) → length rs ≤ place → place_in (drop place rs) name ≡ 0
-unfolding place_in
-place_past rs place name h = rw (drop_of_length-le rs h)
-
-placed_by : (t : Bool) (n m : ℕ) → n ≤ m → cond t 0 (suc n) ≤ suc m
-placed_by true n m h = omega arith
-placed_by false n m h = omega arith
-
-pub place_most : (rs : List Row) (name : List ℕ) → place_in rs name ≤ length rs
-unfolding place_in
-place_most [] name = omega arith
-place_most (r ∷ rs) name = placed_by (same_bytes name (bytes r.name)) (place_in rs name) (length rs) (place_most rs name)
-
--- every name has fewer than 28 bytes
-short : List Row → Bool
-short [] = true
-short (r ∷ rs) = leb (suc (length (bytes r.name))) name_room && short rs
-
-short_names : (rs : List Row) (name : List ℕ) → short rs ≡ true → name_room ≤ length name → place_in rs name ≡ length rs
-unfolding short place_in
-short_names [] name e h = refl
-short_names (r ∷ rs) name e h =
-    let p = both (leb (suc (length (bytes r.name))) name_room) (short rs) e in
-    let l : suc (length (bytes r.name)) ≤ name_room = leb-true _ _ p.0 in
-    let n : same_bytes name (bytes r.name) ≡ false = same_no name (bytes r.name) (λ f. omega (arith, ap length f)) in
-    rw (n, short_names rs name p.1 h)
-
-pub long_name : (name : List ℕ) → name_room ≤ length name → place_in calls name ≡ length calls
-unfolding short
-long_name name h = short_names calls name refl h
+pub few_letters : (name : List ℕ) (entry : Entry) → Named name entry → length entry.letters.now ≤ 24
+few_letters name entry e =
+    omega (arith, as_many entry.letters.now, ap length e.letters, few_at calls (place_of_call entry.call) all_few)
 
 -- ---- what answers a line
 
@@ -202,51 +137,31 @@ unfolding reply_to
 long_reply [] h = let f : ⊥ = omega arith in absurd f
 long_reply (b ∷ bs) h = rw (lt-leb _ _ h)
 
-when_true : (t : Bool) (x y a : Arguments) → t ≡ true → cond t x y ≡ a → x ≡ a
-when_true true x y a e h = h
-when_true false x y a e h = clash false e refl
-
-when_false : (t : Bool) (x y a : Arguments) → t ≡ false → cond t x y ≡ a → y ≡ a
-when_false true x y a e h = clash true refl e
-when_false false x y a e h = h
-
--- a line that is not empty, and not too long
-module _ (line : List ℕ) (some : length line ≡ 0 → ⊥) (fits : length line ≤ line_room) (place : ℕ) (named : place ≡ place_in calls (word line)) where
+-- a line that is not empty, and not too long, whose first word ends at `end`
+module _ (line : List ℕ) (some : length line ≡ 0 → ⊥) (fits : length line ≤ line_room) (end : ℕ) (ends : end ≡ length (word line)) where
   by_calls : (l : List ℕ) → (length l ≡ 0 → ⊥) → length l ≤ line_room → reply_by calls l ≡ reply_to l
   unfolding reply_to
   by_calls [] n h = absurd (n refl)
   by_calls (b ∷ bs) n h = rw (le-leb _ _ h)
 
-  pub text_reply : place ≡ length calls → reply_by_text text_calls line ≡ reply_to line
-  text_reply e = sym (reply_none calls line (sym named ∙ e)) ∙ by_calls line some fits
+  named_word : take end line ≡ word line
+  named_word = rw ends (word_start line)
 
-  module _ (known : place < length calls) (n : Numbers) (read : Reads n (arguments (get_or calls place no_row).takes (rest line))) where
-    there : reply_with (get_or calls place no_row).answers (arguments (get_or calls place no_row).takes (rest line)) ≡ reply_to line
+  pub text_reply : place_in calls (take end line) ≡ length calls → reply_by_text text_calls line ≡ reply_to line
+  text_reply e = sym (reply_none calls line (rw named_word at e)) ∙ by_calls line some fits
+
+  module _ (entry : Entry) (found : Named (take end line) entry) where
+    there : reply_with (row_of entry.call).answers (arguments (letters_kinds entry.letters.now) (drop end line)) ≡ reply_to line
     there =
-        ap (λ (k : ℕ). reply_with (get_or calls k no_row).answers (arguments (get_or calls k no_row).takes (rest line))) named ∙
-        sym (reply_at calls line (subst (λ (k : ℕ). k < length calls) named known)) ∙ by_calls line some fits
+        let h : Named (word line) entry = rw named_word at found in
+        rw (ends, rest_start_lem line, h.letters, ← h.place) (sym (reply_at calls line h.known) ∙ by_calls line some fits)
 
-    pub no_reply : n.known ≡ false → question ≡ reply_to line
-    no_reply e = ap (reply_with (get_or calls place no_row).answers) (when_false n.known (these (numbers_in n)) no_arguments _ e read.reads_as) ∙ there
+    pub no_reply : Reads None (arguments (letters_kinds entry.letters.now) (drop end line)) → question ≡ reply_to line
+    no_reply read = ap (reply_with (row_of entry.call).answers) read.reads_as ∙ there
 
-    pub good_reply : n.known ≡ true → reply_text ((get_or calls place no_row).answers (numbers_in n)) ≡ reply_to line
-    good_reply e = ap (reply_with (get_or calls place no_row).answers) (when_true n.known (these (numbers_in n)) no_arguments _ e read.reads_as) ∙ there
+    module _ (n : ArrayVec ℤ) (read : Reads (Some n) (arguments (letters_kinds entry.letters.now) (drop end line))) where
+      pub good_reply : reply_text ((row_of entry.call).answers (numbers_in n)) ≡ reply_to line
+      good_reply = ap (reply_with (row_of entry.call).answers) read.reads_as ∙ there
 
--- ---- the call at a place
-
-module _ {place k : ℕ} (is : place ≡ k) where
-  pub ready_at : {n : Numbers} {at : ℕ} {out : List ℕ} → Ready (get_or calls place no_row).takes n at out → Ready (get_or calls k no_row).takes n at out
-  ready_at h = rw is at h
-
-  pub answer_at : {before after : List ℕ} {at end : ℕ} (zs : List ℤ) → Replied before at ((get_or calls k no_row).answers zs) after end →
-      Replied before at ((get_or calls place no_row).answers zs) after end
-  answer_at zs h = rw is h
-
--- a place that is none of the first n is past them
-abbrev pub Others : ℕ → ℕ → Type 0
-Others place zero = Unit {0}
-Others place (suc n) = Others place n × (place ≡ n → ⊥)
-
-pub past : (n place : ℕ) → Others place n → n ≤ place
-past zero place h = omega arith
-past (suc n) place h = omega (arith, past n place h.0, h.1)
+      pub ready : (at : ℕ) (out : List ℕ) → at + 255 ≤ length out → Ready (row_of entry.call).takes (numbers_in n) at out
+      ready at out room = record { numbers = rw (← found.letters) (holds_all _ _ _ read); room = room }

@@ -1,178 +1,286 @@
 // The line that answers a line, written into a lent buffer.
-ghost use Rattle.std.specs.Prelude.{◌≡◌, true, ◌+◌, ◌≤◌, ◌<◌, length, drop, get_or};
-ghost use Rattle.lines.specs.Text.{word, spaceless, same_bytes};
+ghost use Rattle.std.specs.Prelude.{◌≡◌, ◌+◌, ◌≤◌, length, MatchOption};
 ghost use Rattle.writing.specs.Wrote.{Wrote};
-ghost use Rattle.parameters.specs.Kinds.{arguments};
-ghost use Rattle.parameters.specs.Meaning.{Reads, numbers_in};
 ghost use Rattle.replies.specs.Replies.{Replied};
-ghost use Rattle.calls.specs.Table.{calls, place_in, no_row};
+ghost use Rattle.calls.specs.Table.{calls, place_in};
 ghost use Rattle.calls.specs.Ready.{Ready};
 ghost use Rattle.requests.specs.Requests.{reply_to, response_to};
-ghost use Rattle.requests.specs.Layout.{Spells};
+ghost use Rattle.requests.specs.Entries.{row_of, Named};
 
 use calls::inner::{date_times, dates, durations, sums, times};
-use check::same;
 use lines::word_end;
-use parameters::Numbers;
 use parameters::inner::numbers_of;
 use text_calls::inner::{answer_text, write_date, write_datetime, write_time};
 use writing::inner::put_byte;
 
-// How many calls take numbers, and how many bytes of the table each has: for its name, and in all.
-const CALLS: usize = 29;
-
-const NAME: usize = 28;
-
-const ROW: usize = 52;
-
 // A longer line is no request.
 const LONGEST: usize = 1000;
 
-// The table of the calls that take numbers: a name, and a letter for each parameter (`parameters::inner::bounds_of` has the letters).
-// It is made once and lent to those that answer.
-pub fn table() -> [u8; 1508]
-    ensures { Spells result }
-{
-    *b"\
-      month_length                ib                      \
-      date_to_day                 ibb                     \
-      day_to_date                 l                       \
-      balance_year_month          ii                      \
-      regulate_date               ibbf                    \
-      make_date                   ibbf                    \
-      date_limits                 ibb                     \
-      balance_date                iil                     \
-      regulate_time               bbbsssf                 \
-      balance_time                llllll                  \
-      time_difference             bbbsssbbbsss            \
-      round_number                lwm                     \
-      round_number_as_if_positive lwm                     \
-      round_time                  bbbsssuwm               \
-      duration_new                llll                    \
-      duration_sign               llll                    \
-      duration_abs                llll                    \
-      duration_negated            llll                    \
-      duration_adjust             lllllflfl               \
-      date_sum                    ibbllllf                \
-      date_difference             ibbibbu                 \
-      datetime_limits             ibbbbbsss               \
-      balance_datetime            iilllllll               \
-      round_datetime              ibbbbbsssuwm            \
-      datetime_difference         ibbbbbsssibbbbbsssu     \
-      datetime_from_instant       lll                     \
-      write_date                  ibbr                    \
-      write_time                  bbbsssr                 \
-      write_datetime              ibbbbbsssr              "
+// The calls that take numbers.
+#[derive(Clone, Copy, Debug, PartialEq, Eq)]
+enum Call {
+    MonthLength,
+    DateToDay,
+    DayToDate,
+    BalanceYearMonth,
+    RegulateDate,
+    MakeDate,
+    DateLimits,
+    BalanceDate,
+    RegulateTime,
+    BalanceTime,
+    TimeDifference,
+    RoundNumber,
+    RoundNumberAsIfPositive,
+    RoundTime,
+    DurationNew,
+    DurationSign,
+    DurationAbs,
+    DurationNegated,
+    DurationAdjust,
+    DateSum,
+    DateDifference,
+    DateTimeLimits,
+    BalanceDateTime,
+    RoundDateTime,
+    DateTimeDifference,
+    DateTimeFromInstant,
+    WriteDate,
+    WriteTime,
+    WriteDateTime,
 }
 
+// The name by which a request asks for a call, and a letter for each parameter (`parameters::inner::bounds_of` has the letters). Letters,
+// and no list of kinds: a word says what would be a line for each parameter. Literals below, since a static calls no function.
+#[derive(Clone, Copy)]
+struct Entry {
+    name: &'static [u8],
+    letters: &'static [u8],
+    call: Call,
+}
+
+static ENTRIES: [Entry; 29] = [
+    Entry {
+        name: b"month_length",
+        letters: b"ib",
+        call: Call::MonthLength,
+    },
+    Entry {
+        name: b"date_to_day",
+        letters: b"ibb",
+        call: Call::DateToDay,
+    },
+    Entry {
+        name: b"day_to_date",
+        letters: b"l",
+        call: Call::DayToDate,
+    },
+    Entry {
+        name: b"balance_year_month",
+        letters: b"ii",
+        call: Call::BalanceYearMonth,
+    },
+    Entry {
+        name: b"regulate_date",
+        letters: b"ibbf",
+        call: Call::RegulateDate,
+    },
+    Entry {
+        name: b"make_date",
+        letters: b"ibbf",
+        call: Call::MakeDate,
+    },
+    Entry {
+        name: b"date_limits",
+        letters: b"ibb",
+        call: Call::DateLimits,
+    },
+    Entry {
+        name: b"balance_date",
+        letters: b"iil",
+        call: Call::BalanceDate,
+    },
+    Entry {
+        name: b"regulate_time",
+        letters: b"bbbsssf",
+        call: Call::RegulateTime,
+    },
+    Entry {
+        name: b"balance_time",
+        letters: b"llllll",
+        call: Call::BalanceTime,
+    },
+    Entry {
+        name: b"time_difference",
+        letters: b"bbbsssbbbsss",
+        call: Call::TimeDifference,
+    },
+    Entry {
+        name: b"round_number",
+        letters: b"lwm",
+        call: Call::RoundNumber,
+    },
+    Entry {
+        name: b"round_number_as_if_positive",
+        letters: b"lwm",
+        call: Call::RoundNumberAsIfPositive,
+    },
+    Entry {
+        name: b"round_time",
+        letters: b"bbbsssuwm",
+        call: Call::RoundTime,
+    },
+    Entry {
+        name: b"duration_new",
+        letters: b"llll",
+        call: Call::DurationNew,
+    },
+    Entry {
+        name: b"duration_sign",
+        letters: b"llll",
+        call: Call::DurationSign,
+    },
+    Entry {
+        name: b"duration_abs",
+        letters: b"llll",
+        call: Call::DurationAbs,
+    },
+    Entry {
+        name: b"duration_negated",
+        letters: b"llll",
+        call: Call::DurationNegated,
+    },
+    Entry {
+        name: b"duration_adjust",
+        letters: b"lllllflfl",
+        call: Call::DurationAdjust,
+    },
+    Entry {
+        name: b"date_sum",
+        letters: b"ibbllllf",
+        call: Call::DateSum,
+    },
+    Entry {
+        name: b"date_difference",
+        letters: b"ibbibbu",
+        call: Call::DateDifference,
+    },
+    Entry {
+        name: b"datetime_limits",
+        letters: b"ibbbbbsss",
+        call: Call::DateTimeLimits,
+    },
+    Entry {
+        name: b"balance_datetime",
+        letters: b"iilllllll",
+        call: Call::BalanceDateTime,
+    },
+    Entry {
+        name: b"round_datetime",
+        letters: b"ibbbbbsssuwm",
+        call: Call::RoundDateTime,
+    },
+    Entry {
+        name: b"datetime_difference",
+        letters: b"ibbbbbsssibbbbbsssu",
+        call: Call::DateTimeDifference,
+    },
+    Entry {
+        name: b"datetime_from_instant",
+        letters: b"lll",
+        call: Call::DateTimeFromInstant,
+    },
+    Entry {
+        name: b"write_date",
+        letters: b"ibbr",
+        call: Call::WriteDate,
+    },
+    Entry {
+        name: b"write_time",
+        letters: b"bbbsssr",
+        call: Call::WriteTime,
+    },
+    Entry {
+        name: b"write_datetime",
+        letters: b"ibbbbbsssr",
+        call: Call::WriteDateTime,
+    },
+];
+
 // Writes the response from `at` on and returns the place after it. 256 bytes hold any.
-pub fn respond(table: &[u8], line: &[u8], out: &mut [u8], at: usize) -> usize
-    requires { Spells table.now × (at + 256 ≤ length out.old) }
+// What is lent has any length (`respond`), so the place stands beside it.
+pub fn respond(line: &[u8], out: &mut [u8], at: usize) -> usize
+    requires { at + 256 ≤ length out.old }
     ensures { Wrote out.old at (response_to line.now) out.new result }
 {
-    let end = reply(table, line, out, at);
+    let end = reply(line, out, at);
     put_byte(out, end, b'\n')
 }
 
 // Writes what stands before the newline of a response.
-fn reply(table: &[u8], line: &[u8], out: &mut [u8], at: usize) -> usize
-    requires { Spells table.now × (at + 255 ≤ length out.old) }
+fn reply(line: &[u8], out: &mut [u8], at: usize) -> usize
+    requires { at + 255 ≤ length out.old }
     ensures { Wrote out.old at (reply_to line.now) out.new result × (result ≤ at + 255) }
 {
-    if line.len() == 0 {
+    if line.is_empty() {
         return at;
     }
-    if LONGEST < line.len() {
+    if line.len() > LONGEST {
         return put_byte(out, at, b'?');
     }
     let end = word_end(line, 0);
-    let place = place_of(table, &line[..end]);
-    if place == CALLS {
+    let Some(entry) = entry_named(&line[..end]) else {
         return answer_text(line, end, out, at);
-    }
-    let n = numbers_at(table, place, line, end);
-    if !n.known {
+    };
+    let Some(n) = numbers_of(line, end, entry.letters) else {
         return put_byte(out, at, b'?');
-    }
-    answer(place, n, out, at)
+    };
+    entry.call.answer(&n, out, at)
 }
 
-// The place of the call that has the name, from 0; as many as there are calls, where none has it.
-fn place_of(table: &[u8], name: &[u8]) -> usize
-    requires { Spells table.now × (spaceless name.now ≡ true) }
-    ensures { result ≡ place_in calls name.now }
+// The entry of the call that has the name.
+fn entry_named(name: &[u8]) -> Option<&'static Entry>
+    ensures { MatchOption result (place_in calls name.now ≡ length calls) (λ entry. Named name.now entry.now) }
 {
-    if NAME <= name.len() {
-        return CALLS;
-    }
-    let mut place = 0;
-    while place < CALLS {
-        if stands_at(table, ROW * place, name) {
-            return place;
+    ENTRIES.iter().find(|entry| entry.name == name)
+}
+
+impl Call {
+    // What the call answers to its numbers.
+    fn answer(self, n: &[i128], out: &mut [u8], at: usize) -> usize
+        requires { Ready (row_of self).takes n.now at out.old }
+        ensures { Replied out.old at ((row_of self).answers n.now) out.new result }
+    {
+        match self {
+            Call::MonthLength => dates::month_length(n, out, at),
+            Call::DateToDay => dates::date_to_day(n, out, at),
+            Call::DayToDate => dates::day_to_date(n, out, at),
+            Call::BalanceYearMonth => dates::balance_year_month(n, out, at),
+            Call::RegulateDate => dates::regulate_date(n, out, at),
+            Call::MakeDate => dates::make_date(n, out, at),
+            Call::DateLimits => dates::date_limits(n, out, at),
+            Call::BalanceDate => dates::balance_date(n, out, at),
+            Call::RegulateTime => times::regulate_time(n, out, at),
+            Call::BalanceTime => times::balance_time(n, out, at),
+            Call::TimeDifference => times::time_difference(n, out, at),
+            Call::RoundNumber => times::round_number(n, out, at),
+            Call::RoundNumberAsIfPositive => times::round_number_as_if_positive(n, out, at),
+            Call::RoundTime => times::round_time(n, out, at),
+            Call::DurationNew => durations::duration_new(n, out, at),
+            Call::DurationSign => durations::duration_sign(n, out, at),
+            Call::DurationAbs => durations::duration_abs(n, out, at),
+            Call::DurationNegated => durations::duration_negated(n, out, at),
+            Call::DurationAdjust => durations::duration_adjust(n, out, at),
+            Call::DateSum => sums::date_sum(n, out, at),
+            Call::DateDifference => sums::date_difference(n, out, at),
+            Call::DateTimeLimits => date_times::datetime_limits(n, out, at),
+            Call::BalanceDateTime => date_times::balance_datetime(n, out, at),
+            Call::RoundDateTime => date_times::round_datetime(n, out, at),
+            Call::DateTimeDifference => date_times::datetime_difference(n, out, at),
+            Call::DateTimeFromInstant => date_times::datetime_from_instant(n, out, at),
+            Call::WriteDate => write_date(n, out, at),
+            Call::WriteTime => write_time(n, out, at),
+            Call::WriteDateTime => write_datetime(n, out, at),
         }
-        place += 1;
-    }
-    place
-}
-
-// Whether the word that starts at a place of the table is the name. Most are told apart by where they end.
-fn stands_at(table: &[u8], at: usize, name: &[u8]) -> bool
-    requires { (at + length name.now < length table.now) × (spaceless name.now ≡ true) }
-    ensures { result ≡ same_bytes name.now (word (drop at table.now)) }
-{
-    let end = at + name.len();
-    if table[end] != b' ' {
-        return false;
-    }
-    same(name, &table[at..end])
-}
-
-// The numbers of a line from a place of it on, as the parameters of a call.
-fn numbers_at(table: &[u8], place: usize, line: &[u8], from: usize) -> Numbers
-    requires { Spells table.now × ((place < length calls) × (from ≤ length line.now)) }
-    ensures { Reads result (arguments (get_or calls place no_row).takes (drop from line.now)) }
-{
-    let start = ROW * place + NAME;
-    let stop = word_end(table, start);
-    numbers_of(line, from, &table[start..stop])
-}
-
-// What the call at a place of the table answers to its numbers.
-fn answer(place: usize, n: Numbers, out: &mut [u8], at: usize) -> usize
-    requires { (place < length calls) × Ready (get_or calls place no_row).takes n at out.old }
-    ensures { Replied out.old at ((get_or calls place no_row).answers (numbers_in n)) out.new result }
-{
-    match place {
-        0 => dates::month_length(n, out, at),
-        1 => dates::date_to_day(n, out, at),
-        2 => dates::day_to_date(n, out, at),
-        3 => dates::balance_year_month(n, out, at),
-        4 => dates::regulate_date(n, out, at),
-        5 => dates::make_date(n, out, at),
-        6 => dates::date_limits(n, out, at),
-        7 => dates::balance_date(n, out, at),
-        8 => times::regulate_time(n, out, at),
-        9 => times::balance_time(n, out, at),
-        10 => times::time_difference(n, out, at),
-        11 => times::round_number(n, out, at),
-        12 => times::round_number_as_if_positive(n, out, at),
-        13 => times::round_time(n, out, at),
-        14 => durations::duration_new(n, out, at),
-        15 => durations::duration_sign(n, out, at),
-        16 => durations::duration_abs(n, out, at),
-        17 => durations::duration_negated(n, out, at),
-        18 => durations::duration_adjust(n, out, at),
-        19 => sums::date_sum(n, out, at),
-        20 => sums::date_difference(n, out, at),
-        21 => date_times::datetime_limits(n, out, at),
-        22 => date_times::balance_datetime(n, out, at),
-        23 => date_times::round_datetime(n, out, at),
-        24 => date_times::datetime_difference(n, out, at),
-        25 => date_times::datetime_from_instant(n, out, at),
-        26 => write_date(n, out, at),
-        27 => write_time(n, out, at),
-        28 => write_datetime(n, out, at),
-        // No place is past the last call.
-        _ => at,
     }
 }

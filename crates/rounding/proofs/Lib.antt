@@ -1,2 +1,1 @@
-pub mod Pinned
 pub mod Rounds

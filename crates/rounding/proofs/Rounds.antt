@@ -6,25 +6,29 @@ use mathlib.Core.Path.{◌≡◌, refl, sym, ◌∙◌, ap}
 use mathlib.Core.Bool.{Bool, true, false, cond, not}
 use mathlib.Core.Logic.{⊎_elim}
 use mathlib.Core.List.{List, [], ◌∷◌}
-use borrow.Author.Tests.{eq-eqb, ne_eqb, lt-ltb, le-ltb, le-leb, lt-leb, eqb-true, eqb-false, leb-true, leb-false}
-use lib.Dec.{leb, eqb}
+use borrow.Author.Tests.{eq-eqb, ne_eqb, lt-ltb, le-ltb, le-leb, lt-leb, eqb-true, eqb-false}
+use lib.Dec.{leb, ltb, eqb}
+use mir.Syntax.{w64}
+use mir.Val.{SFits, bool_byte}
 use lib.ListN.{get_or}
 use lib.IntN.{ℤ, pos, negsuc, neg_ℤ, neg_ℤ-neg_ℤ, ◌+ℤ◌, ◌*ℤ◌, +ℤ_idr}
-use lib.Signed.{lt_z}
-use Rattle.refusal.specs.Answer.{given, refused, check}
+use lib.Signed.{lt_z, le_z, ◌≤ℤ◌, ◌<ℤ◌}
+use Rattle.std.specs.Prelude.{Option, Some, None, SomeIff}
+use Rattle.std.specs.Option.{ok_or}
+use Rattle.refusal.specs.Answer.{given, refused}
+use Rattle.refusal.specs.Refusals.{answer_of}
+use Rattle.refusal.specs.declared.Refusal.TheVariants.{Bound}
 use Rattle.whole.specs.Whole.{◌⊖◌, fdiv, fmod}
-use Rattle.whole.proofs.Laws.{up, split, whole, ints, fdiv_unique, read_neg}
-use Rattle.whole.proofs.Tests.{clash}
+use Rattle.whole.proofs.Laws.{up, split, whole, ints, fdiv_unique, read_neg, range_of}
+use Rattle.whole.proofs.Tests.{clash, both}
 use Rattle.rounding.specs.Proposal.{get_unsigned_rounding_mode, apply_rule, apply_unsigned_rounding_mode, round_quotient}
 use Rattle.rounding.specs.Proposal.{round_number_to_increment, round_number_to_increment_as_if_positive}
 use Rattle.rounding.specs.Paper.{in_signed64, rounded, round_number, round_number_as_if_positive}
-use Rattle.rounding.specs.Inner.{mode_row, sign_column, up_by, takes_up, sized, rounded_size, rounded_below, AtMost, positive_size, negative_size}
+use Rattle.rounding.specs.Inner.{mode_row, up_by, takes_up, rounded_size, mirrored, by_size}
 use Rattle.rounding.specs.declared.RoundingMode.{RoundingMode}
 use Rattle.rounding.specs.declared.RoundingMode.TheVariants as M
 use Rattle.rounding.specs.declared.UnsignedRoundingMode.{UnsignedRoundingMode}
 use Rattle.rounding.specs.declared.UnsignedRoundingMode.TheVariants as U
-use Rattle.rounding.specs.declared.inner.Size.{Size}
-use Rattle.rounding.specs.declared.inner.Size.TheVariants as S
 
 -- ---- the table
 
@@ -34,23 +38,8 @@ table =
     (U.HalfInfinity ∷ U.HalfZero ∷ []) ∷ (U.HalfZero ∷ U.HalfInfinity ∷ []) ∷ (U.HalfInfinity ∷ U.HalfInfinity ∷ []) ∷
     (U.HalfZero ∷ U.HalfZero ∷ []) ∷ (U.HalfEven ∷ U.HalfEven ∷ []) ∷ []
 
-pub row_small : (m : RoundingMode) → mode_row m < 9
-row_small M.Ceil = omega arith
-row_small M.Floor = omega arith
-row_small M.Expand = omega arith
-row_small M.Trunc = omega arith
-row_small M.HalfCeil = omega arith
-row_small M.HalfFloor = omega arith
-row_small M.HalfExpand = omega arith
-row_small M.HalfTrunc = omega arith
-row_small M.HalfEven = omega arith
-
-pub column_small : (n : Bool) → sign_column n < 2
-column_small true = omega arith
-column_small false = omega arith
-
 -- the table's rule, once for its eighteen cells
-pub cell : (m : RoundingMode) (n : Bool) → get_or (get_or table (mode_row m) []) (sign_column n) U.Infinity ≡ get_unsigned_rounding_mode m n
+pub cell : (m : RoundingMode) (n : Bool) → get_or (get_or table (mode_row m) []) (bool_byte n) U.Infinity ≡ get_unsigned_rounding_mode m n
 unfolding get_unsigned_rounding_mode
 cell M.Ceil true = refl
 cell M.Ceil false = refl
@@ -223,6 +212,27 @@ below_times : (q step : ℕ) (t : Bool) → (negsuc q +ℤ pos (cond t 1 0)) *�
 below_times q step true = ap (λ (z : ℤ). z *ℤ pos step) (below_sum q 1) ∙ below_size q 1 step (q * step + 0) (omega arith)
 below_times q step false = ap (λ (z : ℤ). z *ℤ pos step) (below_sum q 0) ∙ below_size q 0 step (q * step + step) (omega arith)
 
+-- seen from the other side of zero the choice, the parity and the distances change places
+not_even : (q : ℕ) → eqb (q % 2) 1 ≡ not (eqb (q % 2) 0)
+not_even q = sym (odd_two q)
+
+not_le : (a b : ℕ) → not (leb a b) ≡ ltb b a
+not_le a b = ⊎_elim (λ h. simp (lt-leb a b h, lt-ltb b a h)) (λ h. simp (le-leb a b h, le-ltb b a h)) (split b a)
+
+not_lt : (a b : ℕ) → not (ltb a b) ≡ leb b a
+not_lt a b = ⊎_elim (λ h. simp (lt-ltb a b h, lt-leb b a h)) (λ h. simp (le-ltb a b h, le-leb b a h)) (split a b)
+
+turned : (rule : UnsignedRoundingMode) (q d1 d2 : ℕ) → not (up_by rule (eqb (q % 2) 0) d1 d2) ≡ up_by (mirrored rule) (eqb (q % 2) 1) d2 d1
+turned U.Infinity q d1 d2 = refl
+turned U.Zero q d1 d2 = refl
+turned U.HalfInfinity q d1 d2 = not_le d2 d1
+turned U.HalfZero q d1 d2 = not_lt d2 d1
+turned U.HalfEven q d1 d2 = rw (not_even q) (go (eqb (q % 2) 0))
+  where
+    go : (even : Bool) → not (cond even (leb d2 d1) (ltb d2 d1)) ≡ cond (not even) (leb d1 d2) (ltb d1 d2)
+    go true = not_le d2 d1
+    go false = not_lt d2 d1
+
 module _ (m step : ℕ) (rule : UnsignedRoundingMode) (p : 0 < step) where
   exact_below : m - m / step * step ≡ 0 → round_quotient (neg_ℤ (pos m)) step rule *ℤ pos step ≡ neg_ℤ (pos m)
   unfolding round_quotient
@@ -247,86 +257,33 @@ module _ (m step : ℕ) (rule : UnsignedRoundingMode) (p : 0 < step) where
       rw (f.0, f.1) (rw (applied (negsuc q) (step - r) (step - (step - r)) rule, even_neg q, d)
       (below_times q step (takes_up rule (eqb (q % 2) 0) (step - r) r)))
 
-  pub below_round : round_quotient (neg_ℤ (pos m)) step rule *ℤ pos step ≡ neg_ℤ (pos (rounded_below m step rule))
-  unfolding rounded_below
+  pub below_round : round_quotient (neg_ℤ (pos m)) step rule *ℤ pos step ≡ neg_ℤ (pos (rounded_size m step (mirrored rule)))
+  unfolding rounded_size
   below_round = go (eqb (m - m / step * step) 0) refl
     where
-      go : (t : Bool) → eqb (m - m / step * step) 0 ≡ t → round_quotient (neg_ℤ (pos m)) step rule *ℤ pos step ≡ neg_ℤ (pos (rounded_below m step rule))
-      go true e = exact_below (eqb-true _ 0 e) ∙ rw e
-      go false e = rest_below (eqb-false _ 0 e) ∙ rw e
+      go : (t : Bool) → eqb (m - m / step * step) 0 ≡ t →
+          round_quotient (neg_ℤ (pos m)) step rule *ℤ pos step ≡ neg_ℤ (pos (rounded_size m step (mirrored rule)))
+      go true e =
+          let h : m - m / step * step ≡ 0 = eqb-true _ 0 e in
+          let s : m / step * step + 0 ≡ m = omega (arith, div-mul-le_self m step) in
+          exact_below h ∙ rw (takes_none (mirrored rule) (eqb (m / step % 2) 1) _ (step - (m - m / step * step)) h, s) refl
+      go false e =
+          let h = eqb-false _ 0 e in
+          let g : step - (m - m / step * step) ≡ 0 → ⊥ = λ z. omega (arith, left_lt m step p) in
+          rest_below h ∙
+          rw (
+            takes_by rule (eqb (m / step % 2) 0) _ (m - m / step * step) g,
+            takes_by (mirrored rule) (eqb (m / step % 2) 1) _ (step - (m - m / step * step)) h,
+            turned rule (m / step) (step - (m - m / step * step)) (m - m / step * step),
+          ) refl
 
--- ---- sizes that the answer holds
+-- ---- the numbers, by their sizes
 
-module _ (n most : ℕ) where
-  pub sized_is : n ≤ most → S.Is n ≡ sized n most
-  unfolding sized
-  sized_is h = rw (le-leb n most h)
-
-  pub sized_past : most < n → S.Past ≡ sized n most
-  unfolding sized
-  sized_past h = rw (lt-leb n most h)
-
-  pub at_most : AtMost most (sized n most)
-  unfolding sized
-  at_most = go (leb n most) refl
-    where
-      go : (t : Bool) → leb n most ≡ t → AtMost most (sized n most)
-      go true e = rw e (leb-true n most e)
-      go false e = rw e tt
-
-pub at_most_of : (size : Size) (n most : ℕ) → size ≡ sized n most → AtMost most size
-at_most_of size n most e = rw e (at_most n most)
-
-pub not_up : (lower step most : ℕ) (up : Bool) → up ≡ false → lower ≤ most → S.Is lower ≡ sized (lower + cond up step 0) most
-not_up lower step most up e h = rw e (let f : lower + 0 ≡ lower = omega arith in rw f (sized_is lower most h))
-
-pub went_up : (lower step most : ℕ) (up : Bool) → up ≡ true → lower + step ≤ most → S.Is (lower + step) ≡ sized (lower + cond up step 0) most
-went_up lower step most up e h = rw e (sized_is (lower + step) most h)
-
-pub past_up : (lower step most : ℕ) (up : Bool) → up ≡ true → most < lower + step → S.Past ≡ sized (lower + cond up step 0) most
-past_up lower step most up e h = rw e (sized_past (lower + step) most h)
-
-pub takes_rule : (rule other : UnsignedRoundingMode) (odd : Bool) (d1 d2 : ℕ) → rule ≡ other → (d1 ≡ 0 → ⊥) → up_by other odd d1 d2 ≡ takes_up rule odd d1 d2
-takes_rule rule other odd d1 d2 e h = rw (← e) (sym (takes_by rule odd d1 d2 h))
-
-pub is_at_most : (size : Size) (n most : ℕ) → size ≡ S.Is n → AtMost most size → n ≤ most
-is_at_most size n most e h = rw e at h
-
--- the size that comes out, from the choice that was made
-pub size_chosen : (m step most : ℕ) (rule : UnsignedRoundingMode) (up : Bool) →
+pub size_up : (m step : ℕ) (rule : UnsignedRoundingMode) (up : Bool) →
     up ≡ takes_up rule (eqb (m / step % 2) 1) (m - m / step * step) (step - (m - m / step * step)) →
-    sized (m / step * step + cond up step 0) most ≡ sized (rounded_size m step rule) most
+    rounded_size m step rule ≡ m / step * step + cond up step 0
 unfolding rounded_size
-size_chosen m step most rule up e = rw e
-
-pub below_chosen_exact : (m step most : ℕ) (rule : UnsignedRoundingMode) → m - m / step * step ≡ 0 → m ≤ most → S.Is m ≡ sized (rounded_below m step rule) most
-unfolding rounded_below
-below_chosen_exact m step most rule e h = rw (eq-eqb _ 0 e) (sized_is m most h)
-
-pub below_chosen : (m step most : ℕ) (rule : UnsignedRoundingMode) (up : Bool) → (m - m / step * step ≡ 0 → ⊥) →
-    up ≡ takes_up rule (eqb (m / step % 2) 0) (step - (m - m / step * step)) (m - m / step * step) →
-    sized (m / step * step + cond (not up) step 0) most ≡ sized (rounded_below m step rule) most
-unfolding rounded_below
-below_chosen m step most rule up h e = rw (e, ne_eqb _ 0 h)
-
--- ---- the answers
-
-in_above : (n : ℕ) → positive_size (sized n (2 ^ 63 - 1)) ≡ check (in_signed64 (pos n)) 7 (given (pos n))
-unfolding sized in_signed64
-in_above n = go (leb n (2 ^ 63 - 1)) refl
-  where
-    go : (t : Bool) → leb n (2 ^ 63 - 1) ≡ t → positive_size (sized n (2 ^ 63 - 1)) ≡ check (in_signed64 (pos n)) 7 (given (pos n))
-    go true e = rw e
-    go false e = rw e
-
-in_below : (n : ℕ) → negative_size (sized n (2 ^ 63)) ≡ check (in_signed64 (neg_ℤ (pos n))) 7 (given (neg_ℤ (pos n)))
-unfolding sized in_signed64
-in_below zero = refl
-in_below (suc n) = go (leb (suc n) (2 ^ 63)) refl
-  where
-    go : (t : Bool) → leb (suc n) (2 ^ 63) ≡ t → negative_size (sized (suc n) (2 ^ 63)) ≡ check (in_signed64 (negsuc n)) 7 (given (negsuc n))
-    go true e = rw (e, le-leb n (2 ^ 63 - 1) (omega (arith, leb-true (suc n) (2 ^ 63) e)))
-    go false e = rw (e, lt-leb n (2 ^ 63 - 1) (omega (arith, leb-false (suc n) (2 ^ 63) e)))
+size_up m step rule up e = rw e
 
 -- the number by its sign and size
 module _ (m step : ℕ) (mode : RoundingMode) (p : 0 < step) where
@@ -340,50 +297,84 @@ module _ (m step : ℕ) (mode : RoundingMode) (p : 0 < step) where
       let t : lt_z (neg_ℤ (pos m)) (pos 0) ≡ true = omega (arith, ints, read_neg (pos m)) in
       rw (t, neg_ℤ-neg_ℤ (pos m)) (negative_round m step (get_unsigned_rounding_mode mode true) p)
 
+by_size_pos : (m step : ℕ) (rule : UnsignedRoundingMode) → by_size (pos m) step rule ≡ pos (rounded_size m step rule)
+unfolding by_size
+by_size_pos m step rule = rw (le-ltb m 0 (omega arith))
+
+by_size_neg : (n step : ℕ) (rule : UnsignedRoundingMode) → by_size (negsuc n) step rule ≡ neg_ℤ (pos (rounded_size (suc n) step rule))
+unfolding by_size
+by_size_neg n step rule = refl
+
+-- two results that are one where there is a step get one answer
+same_rounded : (step : ℕ) (y z : ℤ) → (0 < step → y ≡ z) → rounded step y ≡ rounded step z
+same_rounded zero y z h = refl
+same_rounded (suc n) y z h = ap (rounded (suc n)) (h (omega arith))
+
+pub round_is : (x : ℤ) (step : ℕ) (mode : RoundingMode) →
+    rounded step (by_size x step (get_unsigned_rounding_mode mode (lt_z x (pos 0)))) ≡ round_number x step mode
+unfolding round_number
+round_is x step mode = same_rounded step _ _ (go x)
+  where
+    go : (x : ℤ) → 0 < step → by_size x step (get_unsigned_rounding_mode mode (lt_z x (pos 0))) ≡ round_number_to_increment x step mode
+    go (pos m) p =
+        let t : lt_z (pos m) (pos 0) ≡ false = omega (arith, ints) in
+        rw t (by_size_pos m step _ ∙ sym (number_above m step mode p))
+    go (negsuc n) p = by_size_neg n step _ ∙ sym (number_below (suc n) step mode p (omega arith))
+
 module _ (x : ℤ) (step : ℕ) (mode : RoundingMode) where
-  pub no_step : step ≡ 0 → refused 6 ≡ round_number x step mode
-  unfolding round_number
-  no_step e = rw e
+  pub round_above_as_if : pos 0 ≤ℤ x → rounded step (by_size x step (get_unsigned_rounding_mode mode false)) ≡ round_number_as_if_positive x step mode
+  unfolding round_number_as_if_positive round_number_to_increment_as_if_positive
+  round_above_as_if h = same_rounded step _ _ (go x h)
+    where
+      go : (x : ℤ) → pos 0 ≤ℤ x → 0 < step → by_size x step (get_unsigned_rounding_mode mode false) ≡
+          round_quotient x step (get_unsigned_rounding_mode mode false) *ℤ pos step
+      go (pos m) h p = by_size_pos m step _ ∙ sym (positive_round m step _ p)
+      go (negsuc n) h p = absurd h.le
 
-  pub no_step_as_if : step ≡ 0 → refused 6 ≡ round_number_as_if_positive x step mode
-  unfolding round_number_as_if_positive
-  no_step_as_if e = rw e
+  pub round_below_as_if : x <ℤ pos 0 → rounded step (by_size x step (mirrored (get_unsigned_rounding_mode mode false))) ≡ round_number_as_if_positive x step mode
+  unfolding round_number_as_if_positive round_number_to_increment_as_if_positive
+  round_below_as_if h = same_rounded step _ _ (go x h)
+    where
+      go : (x : ℤ) → x <ℤ pos 0 → 0 < step → by_size x step (mirrored (get_unsigned_rounding_mode mode false)) ≡
+          round_quotient x step (get_unsigned_rounding_mode mode false) *ℤ pos step
+      go (pos m) h p = absurd (omega (arith, ints))
+      go (negsuc n) h p = by_size_neg n step _ ∙ sym (below_round (suc n) step _ p)
 
--- each way through the code, with the rule and the size that it found
-module _ (x : ℤ) (step : ℕ) (mode : RoundingMode) (rule : UnsignedRoundingMode) (m : ℕ) (some : step ≡ 0 → ⊥) where
+-- ---- the answers
+
+-- what 64 bits with a sign hold
+signed64 : (z : ℤ) → SFits w64 z → in_signed64 z ≡ true
+unfolding in_signed64
+signed64 z f =
+    let a : le_z (neg_ℤ (pos (2 ^ 63))) z ≡ true = omega (arith, ints, f.sfits, range_of z) in
+    let b : le_z z (pos (2 ^ 63 - 1)) ≡ true = omega (arith, ints, f.sfits, range_of z) in
+    rw (a, b)
+
+not_signed64 : (z : ℤ) → (SFits w64 z → ⊥) → in_signed64 z ≡ false
+unfolding in_signed64
+not_signed64 z h = go (in_signed64 z) refl
+  where
+    go : (t : Bool) → in_signed64 z ≡ t → in_signed64 z ≡ false
+    go false e = e
+    go true e =
+        let b = both (le_z (neg_ℤ (pos (2 ^ 63))) z) (le_z z (pos (2 ^ 63 - 1))) e in
+        absurd (h (record { sfits = omega (arith, ints, b.0, b.1, range_of z) }))
+
+-- a size that 64 bits do not hold
+pub too_large : (t : Bool) (n : ℕ) → (n < 2 ^ 64 → ⊥) → SFits w64 (cond t (neg_ℤ (pos n)) (pos n)) → ⊥
+too_large true n h f = omega (arith, ints, h, f.sfits, range_of (neg_ℤ (pos n)), read_neg (pos n))
+too_large false n h f = omega (arith, ints, h, f.sfits)
+
+module _ (step : ℕ) (z : ℤ) (some : step ≡ 0 → ⊥) where
   step_some : 0 < step
   step_some = omega (arith, some)
 
-  checked : (z : ℤ) → rounded step z ≡ check (in_signed64 z) 7 (given z)
-  checked z = rw (lt-ltb 0 step step_some)
+  pub rounded_given : SFits w64 z → given z ≡ rounded step z
+  rounded_given f = rw (lt-ltb 0 step step_some, signed64 z f)
 
-  pub round_above : rule ≡ get_unsigned_rounding_mode mode false → x ≡ pos m → positive_size (sized (rounded_size m step rule) (2 ^ 63 - 1)) ≡ round_number
-      x step mode
-  unfolding round_number
-  round_above r e = rw (e, number_above m step mode step_some, r) (in_above _ ∙ sym (checked _))
+  pub rounded_past : (SFits w64 z → ⊥) → refused 7 ≡ rounded step z
+  rounded_past h = rw (lt-ltb 0 step step_some, not_signed64 z h)
 
-  pub round_below : rule ≡ get_unsigned_rounding_mode mode true → x ≡ neg_ℤ (pos m) → 1 ≤ m → negative_size (sized (rounded_size m step rule) (2 ^ 63)) ≡
-      round_number x step mode
-  unfolding round_number
-  round_below r e h = rw (e, number_below m step mode step_some h, r) (in_below _ ∙ sym (checked _))
-
-  pub round_above_as_if : rule ≡ get_unsigned_rounding_mode mode false → x ≡ pos m → positive_size (sized (rounded_size m step rule) (2 ^ 63 - 1)) ≡
-      round_number_as_if_positive x step mode
-  unfolding round_number_as_if_positive round_number_to_increment_as_if_positive
-  round_above_as_if r e = rw (e, ← r, positive_round m step rule step_some) (in_above _ ∙ sym (checked _))
-
-  pub round_below_as_if : rule ≡ get_unsigned_rounding_mode mode false → x ≡ neg_ℤ (pos m) → negative_size (sized (rounded_below m step rule) (2 ^ 63)) ≡
-      round_number_as_if_positive x step mode
-  unfolding round_number_as_if_positive round_number_to_increment_as_if_positive
-  round_below_as_if r e = rw (e, ← r, below_round m step rule step_some) (in_below _ ∙ sym (checked _))
-
--- a small size, by the choice that was made
-pub small_up : (m step : ℕ) (rule : UnsignedRoundingMode) (up : Bool) →
-    up ≡ takes_up rule (eqb (m / step % 2) 1) (m - m / step * step) (step - (m - m / step * step)) → up ≡ true → m / step * step + step ≡ rounded_size m step rule
-unfolding rounded_size
-small_up m step rule up e t = rw (← e, t)
-
-pub small_down : (m step : ℕ) (rule : UnsignedRoundingMode) (up : Bool) →
-    up ≡ takes_up rule (eqb (m / step % 2) 1) (m - m / step * step) (step - (m - m / step * step)) → up ≡ false → m / step * step ≡ rounded_size m step rule
-unfolding rounded_size
-small_down m step rule up e t = rw (← e, t) (omega arith)
+  pub rounded_checked : (o : Option ℤ) → SomeIff o (SFits w64 z) z → answer_of (ok_or o Bound) ≡ rounded step z
+  rounded_checked (Some x) h = ap given h.1 ∙ rounded_given h.0
+  rounded_checked None h = rounded_past h

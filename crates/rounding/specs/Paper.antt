@@ -1,15 +1,9 @@
 -- What the rounder answers, for every input: a step of 0 is 6, an exact result outside signed 64 bits is 7.
 use Rattle.std.specs.Prelude.{ℕ, ◌-◌, ◌^◌, Bool, ◌&&◌, ltb, ℤ, pos, neg_ℤ}
 use Rattle.std.specs.Int.Signed.{le_z}
-use Rattle.refusal.specs.Answer.{Answer, given, refused, check}
+use Rattle.refusal.specs.Answer.{Answer, given, check}
 use Rattle.rounding.specs.Proposal.{round_number_to_increment, round_number_to_increment_as_if_positive}
 use Rattle.rounding.specs.declared.RoundingMode.{RoundingMode}
-use Rattle.rounding.specs.declared.NumberResult.{NumberResult}
-use Rattle.rounding.specs.declared.NumberResult.TheVariants as R
-
-abbrev pub of_number : NumberResult → Answer ℤ
-of_number (R.Number z) = given z
-of_number (R.Refused n) = refused n
 
 unfoldable pub in_signed64 : ℤ → Bool
 in_signed64 z = le_z (neg_ℤ (pos (2 ^ 63))) z && le_z z (pos (2 ^ 63 - 1))

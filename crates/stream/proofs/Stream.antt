@@ -7,20 +7,21 @@ use mathlib.Core.Path.{◌≡◌, refl, sym, ◌∙◌, ap}
 use mathlib.Core.Logic.{⊎_elim}
 use mathlib.Core.Bool.{Bool, true, false, cond}
 use mathlib.Core.List.{List, [], ◌∷◌, ◌++◌, append_assoc, append-nil}
-use borrow.Author.Tests.{eq-eqb, ne_eqb, lt-ltb, le-ltb, lt-leb, ltb-true, ltb-false}
+use borrow.Author.Tests.{eq-eqb, ne_eqb, lt-leb, ltb-true, ltb-false}
 use lib.Dec.{eqb, ltb}
 use lib.ListN.{length, take, drop, get_or, set, replicate, length-append, length-set, length-replicate}
 use lib.Seq.{slice, slice_empty, slice-cons, take-add, take_all, take-suc-set, drop-append-le, drop_at, length-take-le}
 use Rattle.whole.proofs.Laws.{split}
-use Rattle.whole.proofs.Tests.{clash}
 use Rattle.lines.specs.Text.{newline}
 use Rattle.writing.specs.Wrote.{Wrote}
 use Rattle.writing.proofs.Writing.{after, nothing, wrote_once}
 use Rattle.requests.specs.Requests.{reply_to, response_to, line_room}
 use Rattle.replies.specs.Replies.{question}
-use Rattle.stream.specs.Stream.{answered, pending_after, last_answer, output_of, response_room, Kept, kept, kept_with, kept_after, Holds}
+use Rattle.stream.specs.Stream.{answered, pending_after, last_answer, output_of, response_room, Kept, kept, buffered, joined, kept_with, kept_after, Holds}
 use Rattle.stream.specs.Stream.{Inside, Roomy, Stops, Took, Taken, begun, more}
 use Rattle.stream.specs.declared.inner.Progress.{Progress}
+use Rattle.stream.specs.declared.inner.Pending.{Pending}
+use Rattle.stream.specs.declared.inner.Pending.TheVariants.{Buffered, Outgrown}
 
 -- ---- bytes in two parts
 
@@ -74,18 +75,13 @@ module _ (block : List ℕ) (at : ℕ) (inside : at < length block) where
   unfolding answered
   other_answered p n = rw (one_byte, ne_eqb _ _ n)
 
-  newline_kept : (k : Kept) → get_or block at 0 ≡ newline → kept k.line 0 false ≡ kept_after k (slice at (at + 1) block)
+  newline_kept : (k : Kept) → get_or block at 0 ≡ newline → kept k.line (Buffered 0) ≡ kept_after k (slice at (at + 1) block)
   unfolding kept_after kept_with
   newline_kept k e = rw (one_byte, eq-eqb _ _ e)
 
-  other_kept : (k : Kept) → (get_or block at 0 ≡ newline → ⊥) → k.have < length k.line →
-      kept (set k.line k.have (get_or block at 0)) (k.have + 1) k.over ≡ kept_after k (slice at (at + 1) block)
+  other_kept : (k : Kept) → (get_or block at 0 ≡ newline → ⊥) → joined k.line k.pending (get_or block at 0) ≡ kept_after k (slice at (at + 1) block)
   unfolding kept_after kept_with
-  other_kept k n h = rw (one_byte, ne_eqb _ _ n, lt-ltb _ _ h)
-
-  full_kept : (k : Kept) → (get_or block at 0 ≡ newline → ⊥) → length k.line ≤ k.have → kept k.line k.have true ≡ kept_after k (slice at (at + 1) block)
-  unfolding kept_after kept_with
-  full_kept k n h = rw (one_byte, ne_eqb _ _ n, le-ltb _ _ h)
+  other_kept k n = rw (one_byte, ne_eqb _ _ n)
 
 -- ---- what the line buffer keeps
 
@@ -95,52 +91,52 @@ kept_after_append k [] ys = refl
 kept_after_append k (b ∷ xs) ys = kept_after_append (kept_with k b) xs ys
 
 -- at the start of an input, and after a newline
-pub holds_none : (line : List ℕ) → Holds [] (kept line 0 false)
-holds_none line = record { whole = λ e. refl; longer = λ e. clash true refl (sym e) }
+pub holds_none : (line : List ℕ) → Holds [] (kept line (Buffered 0))
+holds_none line = record { stands = refl }
 
 pub record Sized (k : Kept) : Type 0 where
   pub long : length k.line ≡ line_room
-  pub some : k.have ≤ line_room
+  pub some : buffered k.pending ≤ line_room
 
-module _ {p : List ℕ} {k : Kept} (b : ℕ) (h : Holds p k) where
-  longer_still : line_room < length p → line_room < length (p ++ (b ∷ []))
-  longer_still l = rw (length-append p (b ∷ [])) (omega arith)
+-- another byte joins the line
+module _ (line : List ℕ) (b : ℕ) where
+  joined_by : (t : Bool) (have : ℕ) → ltb have (length line) ≡ t → length line ≡ line_room → have ≤ line_room →
+      Sized (cond t (kept (set line have b) (Buffered (have + 1))) (kept line Outgrown)) ×
+      Holds (take have line ++ (b ∷ [])) (cond t (kept (set line have b) (Buffered (have + 1))) (kept line Outgrown))
+  joined_by true have e s h =
+      let l : have < length line = ltb-true _ _ e in
+      (record { long = length-set line have b ∙ s; some = omega (arith, s) }, record { stands = sym (rw (add-one have) (take-suc-set line have b l)) })
+  joined_by false have e s h =
+      let g : length (take have line) ≡ have = length-take-le have line (omega (arith, s)) in
+      let f : length line ≤ have = ltb-false _ _ e in
+      (record { long = s; some = omega arith }, record { stands = rw (length-append (take have line) (b ∷ [])) (omega (arith, s)) })
 
-  holds_more : k.have < length k.line → Holds (p ++ (b ∷ [])) (kept (set k.line k.have b) (k.have + 1) k.over)
-  holds_more l = record { whole = λ e. rw (h.whole e, add-one k.have, take-suc-set k.line k.have b l); longer = λ e. longer_still (h.longer e) }
+  pub joins : (p : List ℕ) (q : Pending) → Sized (kept line q) → Holds p (kept line q) → Sized (joined line q b) × Holds (p ++ (b ∷ [])) (joined line q b)
+  joins p (Buffered have) s h =
+      rw h.stands (joined_by (ltb have (length line)) have refl s.long s.some)
+  joins p Outgrown s h = (record { long = s.long; some = omega arith }, record { stands = rw (length-append p (b ∷ [])) (omega (arith, h.stands)) })
 
-  holds_full : Sized k → length k.line ≤ k.have → Holds (p ++ (b ∷ [])) (kept k.line k.have true)
-  holds_full s f = record { whole = λ e. clash true refl e; longer = λ e. by k.over refl }
-    where
-      by : (t : Bool) → k.over ≡ t → line_room < length (p ++ (b ∷ []))
-      by true e = longer_still (h.longer e)
-      by false e =
-          let g : length p ≡ k.have = ap length (h.whole e) ∙ length-take-le k.have k.line (omega (arith, s.long, s.some)) in
-          rw (length-append p (b ∷ [])) (omega (arith, s.long))
-
-holds_by : (t u : Bool) (k : Kept) (b : ℕ) (bs p : List ℕ) → ltb k.have (length k.line) ≡ u → Sized k → Holds p k →
+holds_by : (t : Bool) (k : Kept) (b : ℕ) (bs p : List ℕ) → Sized k → Holds p k →
     ((j : Kept) (q : List ℕ) → Sized j → Holds q j → Holds (pending_after q bs) (kept_after j bs)) →
-    Holds (cond t (pending_after [] bs) (pending_after (p ++ (b ∷ [])) bs))
-    (kept_after (cond t (kept k.line 0 false) (cond u (kept (set k.line k.have b) (k.have + 1) k.over) (kept k.line k.have true))) bs)
-holds_by true u k b bs p e s h step = step (kept k.line 0 false) [] (record { long = s.long; some = omega arith }) (holds_none k.line)
-holds_by false true k b bs p e s h step =
-    let l : k.have < length k.line = ltb-true _ _ e in
-    step (kept (set k.line k.have b) (k.have + 1) k.over) (p ++ (b ∷ []))
-    (record { long = length-set k.line k.have b ∙ s.long; some = omega (arith, s.long) }) (holds_more b h l)
-holds_by false false k b bs p e s h step =
-    step (kept k.line k.have true) (p ++ (b ∷ [])) (record { long = s.long; some = s.some }) (holds_full b h s (ltb-false _ _ e))
+    Holds (cond t (pending_after [] bs) (pending_after (p ++ (b ∷ [])) bs)) (kept_after (cond t (kept k.line (Buffered 0)) (joined k.line k.pending b)) bs)
+holds_by true k b bs p s h step = step (kept k.line (Buffered 0)) [] (record { long = s.long; some = omega arith }) (holds_none k.line)
+holds_by false k b bs p s h step =
+    let j = joins k.line b p k.pending s h in
+    step (joined k.line k.pending b) (p ++ (b ∷ [])) j.0 j.1
 
 holds_after : (bytes : List ℕ) (k : Kept) (p : List ℕ) → Sized k → Holds p k → Holds (pending_after p bytes) (kept_after k bytes)
 unfolding pending_after kept_after kept_with
 holds_after [] k p s h = h
-holds_after (b ∷ bs) k p s h = holds_by (eqb b newline) (ltb k.have (length k.line)) k b bs p refl s h (λ j q. holds_after bs j q)
+holds_after (b ∷ bs) k p s h = holds_by (eqb b newline) k b bs p s h (λ j q. holds_after bs j q)
 
 -- something is pending that is kept so
-abbrev pending_of : Kept → List ℕ
-pending_of k = cond k.over (replicate (suc line_room) 0) (take k.have k.line)
+abbrev pending_of : List ℕ → Pending → List ℕ
+pending_of line (Buffered have) = take have line
+pending_of line Outgrown = replicate (suc line_room) 0
 
-holds_pending : (k : Kept) → Holds (pending_of k) k
-holds_pending k = record { whole = λ e. rw e; longer = λ e. rw (e, length-replicate) (omega arith) }
+holds_pending : (line : List ℕ) (p : Pending) → Holds (pending_of line p) (kept line p)
+holds_pending line (Buffered have) = record { stands = refl }
+holds_pending line Outgrown = record { stands = rw length-replicate (omega arith) }
 
 -- ---- the end of the input, and of a line that is too long
 
@@ -154,16 +150,15 @@ unfolding last_answer
 last_some [] h = let f : ⊥ = omega arith in absurd f
 last_some (b ∷ bs) h = refl
 
-module _ {p : List ℕ} {k : Kept} (h : Holds p k) where
-  pub last_long : k.over ≡ true → response_to p ≡ last_answer p
-  last_long e = last_some p (omega (arith, h.longer e))
+-- something that is pending is answered as a line, and nothing is where nothing is
+pub last_whole : (p line : List ℕ) (q : Pending) → Holds p (kept line q) → buffered q ≤ length line → (q ≡ Buffered 0 → ⊥) → response_to p ≡ last_answer p
+last_whole p line (Buffered have) h l n =
+    last_some p (omega (arith, ap length h.stands ∙ length-take-le have line l, λ (e : have ≡ 0). n (ap (λ (k : ℕ). Buffered k) e)))
+last_whole p line Outgrown h l n = last_some p (omega (arith, h.stands))
 
-  pub last_whole : k.over ≡ false → k.have ≤ length k.line → (k.have ≡ 0 → ⊥) → response_to p ≡ last_answer p
-  last_whole e l n = last_some p (omega (arith, ap length (h.whole e) ∙ length-take-le k.have k.line l))
-
-  pub last_none : k.over ≡ false → k.have ≡ 0 → [] ≡ last_answer p
-  unfolding last_answer
-  last_none e z = rw (h.whole e, z)
+pub last_none : (p line : List ℕ) (have : ℕ) → have ≡ 0 → Holds p (kept line (Buffered have)) → [] ≡ last_answer p
+unfolding last_answer
+last_none p line have e h = rw (h.stands, e)
 
 -- ---- a block taken: nothing, one byte, two parts
 
@@ -180,9 +175,9 @@ module _ {block line out : List ℕ} {s : Progress} (w : Inside block line out s
       }
 
   -- what was pending is kept
-  held : {line' out' : List ℕ} {m : Progress} {p : List ℕ} → Took block line out s line' out' m → Holds p (kept line s.have s.over) →
-      Holds (pending_after p (slice s.at m.at block)) (kept line' m.have m.over)
-  held {p = p} v h = rw v.keeps (holds_after _ (kept line s.have s.over) p (record { long = w.line_sized; some = w.have_inside }) h)
+  held : {line' out' : List ℕ} {m : Progress} {p : List ℕ} → Took block line out s line' out' m → Holds p (kept line s.pending) →
+      Holds (pending_after p (slice s.at m.at block)) (kept line' m.pending)
+  held {p = p} v h = rw v.keeps (holds_after _ (kept line s.pending) p (record { long = w.line_sized; some = w.pending_inside }) h)
 
   pub took_more : {line' out' line'' out'' : List ℕ} {m r : Progress} → Took block line out s line' out' m → Took block line' out' m line'' out'' r →
       Took block line out s line'' out'' r
@@ -194,7 +189,7 @@ module _ {block line out : List ℕ} {s : Progress} (w : Inside block line out s
         inside = x.inside;
         keeps =
             x.keeps ∙ ap (λ (k : Kept). kept_after k (slice m.at r.at block)) v.keeps ∙
-            rw e (sym (kept_after_append (kept line s.have s.over) (slice s.at m.at block) (slice m.at r.at block)));
+            rw e (sym (kept_after_append (kept line s.pending) (slice s.at m.at block) (slice m.at r.at block)));
         wrote = λ p h. rw (e, answered_append p) (after (v.wrote p h) (x.wrote _ (held v h)));
         roomy =
             λ p h n l u.
@@ -214,41 +209,25 @@ module _ {block line out : List ℕ} {s : Progress} (w : Inside block line out s
   roomy_one p m l u = let e : m ≡ s.at = omega arith in rw (e, slice_empty s.at block) (omega arith)
 
   pub took_newline : {out' : List ℕ} {n : ℕ} → get_or block s.at 0 ≡ newline → n ≤ length out' →
-      ((p : List ℕ) → Holds p (kept line s.have s.over) → Wrote out s.filled (response_to p) out' n) →
-      Took block line out s line out' (record { at = s.at + 1; have = 0; over = false; filled = n })
+      ((p : List ℕ) → Holds p (kept line s.pending) → Wrote out s.filled (response_to p) out' n) →
+      Took block line out s line out' (record { at = s.at + 1; pending = Buffered 0; filled = n })
   took_newline e fits wrote =
       record {
         onward = omega arith;
-        inside = record { at_inside = omega arith; line_sized = w.line_sized; have_inside = omega arith; filled_inside = fits };
-        keeps = newline_kept block s.at inside (kept line s.have s.over) e;
+        inside = record { at_inside = omega arith; line_sized = w.line_sized; pending_inside = omega arith; filled_inside = fits };
+        keeps = newline_kept block s.at inside (kept line s.pending) e;
         wrote = λ p h. rw (newline_answered block s.at inside p e) (wrote p h);
         roomy = λ p h. roomy_one p;
       }
 
-  pub took_other : (get_or block s.at 0 ≡ newline → ⊥) → s.have < length line →
-      Took block line out s (set line s.have (get_or block s.at 0)) out (record { at = s.at + 1; have = s.have + 1; over = s.over; filled = s.filled })
-  took_other n l =
+  pub took_other : {line' : List ℕ} {q : Pending} → (get_or block s.at 0 ≡ newline → ⊥) → kept line' q ≡ joined line s.pending (get_or block s.at 0) →
+      Took block line out s line' out (record { at = s.at + 1; pending = q; filled = s.filled })
+  took_other n e =
+      let z = rw (← e) at (joins line (get_or block s.at 0) (pending_of line s.pending) s.pending (record { long = w.line_sized; some = w.pending_inside }) (holds_pending line s.pending)).0 in
       record {
         onward = omega arith;
-        inside =
-            record {
-              at_inside = omega arith;
-              line_sized = length-set line s.have (get_or block s.at 0) ∙ w.line_sized;
-              have_inside = omega (arith, w.line_sized);
-              filled_inside = w.filled_inside;
-            };
-        keeps = other_kept block s.at inside (kept line s.have s.over) n l;
-        wrote = λ p h. rw (other_answered block s.at inside p n) (nothing out s.filled);
-        roomy = λ p h. roomy_one p;
-      }
-
-  pub took_long : (get_or block s.at 0 ≡ newline → ⊥) → length line ≤ s.have →
-      Took block line out s line out (record { at = s.at + 1; have = s.have; over = true; filled = s.filled })
-  took_long n l =
-      record {
-        onward = omega arith;
-        inside = record { at_inside = omega arith; line_sized = w.line_sized; have_inside = w.have_inside; filled_inside = w.filled_inside };
-        keeps = full_kept block s.at inside (kept line s.have s.over) n l;
+        inside = record { at_inside = omega arith; line_sized = z.long; pending_inside = z.some; filled_inside = w.filled_inside };
+        keeps = e ∙ other_kept block s.at inside (kept line s.pending) n;
         wrote = λ p h. rw (other_answered block s.at inside p n) (nothing out s.filled);
         roomy = λ p h. roomy_one p;
       }
@@ -257,8 +236,8 @@ module _ {block line out : List ℕ} {s : Progress} (w : Inside block line out s
 
 module _ {block line out : List ℕ} {s : Progress} where
   filled_as : {line' out' : List ℕ} {r : Progress} → Took block line out s line' out' r →
-      r.filled ≡ s.filled + length (answered (pending_of (kept line s.have s.over)) (slice s.at r.at block))
-  filled_as v = (v.wrote _ (holds_pending (kept line s.have s.over))).ends
+      r.filled ≡ s.filled + length (answered (pending_of line s.pending) (slice s.at r.at block))
+  filled_as v = (v.wrote _ (holds_pending line s.pending)).ends
 
   -- with room at first and a byte to take, one is taken
   pub moves : {line' out' : List ℕ} {r : Progress} → Took block line out s line' out' r → Stops block out r → s.at < length block →
@@ -279,7 +258,7 @@ module _ {block line out : List ℕ} {s : Progress} where
   not_later {r = r} {t = t} v stops x =
       ⊎_elim
       (λ (d : r.at < t.at).
-      let room = x.roomy _ (holds_pending (kept line s.have s.over)) r.at v.onward d in
+      let room = x.roomy _ (holds_pending line s.pending) r.at v.onward d in
       let l : length out < r.filled + response_room = stops (omega (arith, x.inside.at_inside)) in
       let f : ⊥ = omega (arith, filled_as v) in
       absurd f)
@@ -292,16 +271,15 @@ module _ {block line out : List ℕ} {s : Progress} where
       (r ≡ t) × ((line' ≡ line'') × (out' ≡ out''))
   took_once {line'} {out'} {line''} {out''} {r} {t} v stops x halts =
       let e : r.at ≡ t.at = omega (arith, not_later v stops x, not_later x halts v) in
-      let k : kept line' r.have r.over ≡ kept line'' t.have t.over = v.keeps ∙ (rw (← e) at (sym x.keeps)) in
-      let p = holds_pending (kept line s.have s.over) in
+      let k : kept line' r.pending ≡ kept line'' t.pending = v.keeps ∙ (rw (← e) at (sym x.keeps)) in
+      let p = holds_pending line s.pending in
       let o = wrote_once (v.wrote _ p) (rw (← e) at (x.wrote _ p)) in
-      let have : r.have ≡ t.have = ap (λ (j : Kept). j.have) k in
-      let over : r.over ≡ t.over = ap (λ (j : Kept). j.over) k in
-      (same_progress _ _ _ _ _ _ _ _ e have over o.1, (ap (λ (j : Kept). j.line) k, o.0))
+      let pending : r.pending ≡ t.pending = ap (λ (j : Kept). j.pending) k in
+      (same_progress _ _ _ _ _ _ e pending o.1, (ap (λ (j : Kept). j.line) k, o.0))
     where
-      same_progress : (a b : ℕ) (c d : ℕ) (i j : Bool) (m n : ℕ) → a ≡ b → c ≡ d → i ≡ j → m ≡ n →
-          ◌≡◌ {A = Progress} (record { at = a; have = c; over = i; filled = m }) (record { at = b; have = d; over = j; filled = n })
-      same_progress a b c d i j m n e f g h = rw (e, f, g, h)
+      same_progress : (a b : ℕ) (p q : Pending) (m n : ℕ) → a ≡ b → p ≡ q → m ≡ n →
+          ◌≡◌ {A = Progress} (record { at = a; pending = p; filled = m }) (record { at = b; pending = q; filled = n })
+      same_progress a b p q m n e f g = rw (e, f, g)
 
 -- ---- the parts of a block together
 
@@ -331,7 +309,7 @@ taken_is (more {input} {output} {block} {line} {out} {line'} {out'} {s} {r} t w 
     (rw (answered_append [] input bytes, i.0, wrote_slice w.filled_inside (v.wrote _ i.1)), rw (pending_after_append [] input bytes) (held w v i.1))
 
 -- what `take_lines` wrote part by part, and `end_input` at last, is the output of the input
-pub whole_output : {input output line out out' : List ℕ} {have filled end : ℕ} {over : Bool} → Taken input output (kept line have over) → filled ≤ length out →
-    ((pending : List ℕ) → Holds pending (kept line have over) → Wrote out filled (last_answer pending) out' end) →
+pub whole_output : {input output line out out' : List ℕ} {filled end : ℕ} {p : Pending} → Taken input output (kept line p) → filled ≤ length out →
+    ((pending : List ℕ) → Holds pending (kept line p) → Wrote out filled (last_answer pending) out' end) →
     output ++ slice filled end out' ≡ output_of input
 whole_output t h last = let i = taken_is t in rw (i.0, wrote_slice h (last _ i.1))

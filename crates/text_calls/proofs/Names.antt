@@ -8,7 +8,7 @@ use mathlib.Core.List.{List, [], ◌∷◌}
 use lib.ListN.{length, take, drop, get_or, drop_of_length-le}
 use lib.Seq.{drop-cons}
 use Rattle.lines.specs.Text.{word, rest, same_bytes}
-use Rattle.lines.proofs.Words.{word_start, rest_start_lem, same_yes, same_no}
+use Rattle.lines.proofs.Words.{word_inside, word_start, rest_start_lem, same_yes, same_no}
 use Rattle.replies.specs.Replies.{reply_text, question}
 use Rattle.calls.specs.Table.{TextRow, text_calls, bytes}
 use Rattle.text_calls.specs.Texts.{reply_by_text}
@@ -32,6 +32,10 @@ no_text line end e f =
 pub no_text_call : (line : List ℕ) → question ≡ reply_by_text [] line
 unfolding reply_by_text
 no_text_call line = refl
+
+-- a name that does not end with the line ends before it
+pub inside : (line : List ℕ) (end : ℕ) → end ≡ length (word line) → (end ≡ length line → ⊥) → end < length line
+inside line end e f = omega (arith, e, f, word_inside line)
 
 -- a name that was compared
 module _ (line : List ℕ) (end : ℕ) (ends : end ≡ length (word line)) (inside : end < length line) where

@@ -1,4 +1,5 @@
 -- A text in a part of a buffer that was lent, and what stands before it.
+use Rattle.std.specs.Prelude.{Result, Ok, Err}
 use Prim.Native.Nat.{ℕ, ◌+◌, ◌-◌, ◌≤◌}
 use native.Mathlib.Omega.{arith}
 use mathlib.Core.Path.{◌≡◌, refl, sym, ap, ◌∙◌}
@@ -12,9 +13,9 @@ use Rattle.lines.specs.Text.{digit_zero, space}
 use Rattle.writing.specs.Wrote.{Wrote}
 use Rattle.writing.proofs.Writing.{placed, placed_wrote, ahead}
 use Rattle.replies.specs.Replies.{Replied, shown_text}
-use Rattle.date_text.specs.Paper.{of_length, length_of, afterwards}
-use Rattle.date_text.specs.declared.LengthResult.{LengthResult}
-use Rattle.date_text.specs.declared.LengthResult.TheVariants as L
+use Rattle.date_text.specs.Paper.{length_of, afterwards}
+use Rattle.refusal.specs.Refusals.{refusal_number, answer_of}
+use Rattle.refusal.specs.declared.Refusal.{Refusal}
 use Rattle.text_calls.specs.Heads.{head_of, behind}
 
 -- a text at the start of a part is a text at the part's place
@@ -39,12 +40,12 @@ module _ (out : List ℕ) (start room : ℕ) (inside : start + room ≤ length o
 text_fits : (part part' text : List ℕ) → part' ≡ text ++ drop (length text) part → length part' ≡ length part → length text ≤ length part
 text_fits part part' text e same = omega (arith, (simp (length-append, length-drop) at (ap length e)), same)
 
-behind_fits : (part part' : List ℕ) (a : Answer (List ℕ)) (r : LengthResult) → of_length r ≡ length_of a → part' ≡ afterwards part a →
+behind_fits : (part part' : List ℕ) (a : Answer (List ℕ)) (r : Result ℕ Refusal) → answer_of r ≡ length_of a → part' ≡ afterwards part a →
     length part' ≡ length part → behind r ≤ length part
-behind_fits part part' (given text) (L.Length n) e h same = let f = given_inj n (length text) e in omega (arith, f, text_fits part part' text h same)
-behind_fits part part' (given text) (L.Refused n) e h same = never (length text) n e
-behind_fits part part' (refused m) (L.Length n) e h same = never n m (sym e)
-behind_fits part part' (refused m) (L.Refused n) e h same = omega arith
+behind_fits part part' (given text) (Ok n) e h same = let f = given_inj n (length text) e in omega (arith, f, text_fits part part' text h same)
+behind_fits part part' (given text) (Err n) e h same = never (length text) (refusal_number n) e
+behind_fits part part' (refused m) (Ok n) e h same = never n m (sym e)
+behind_fits part part' (refused m) (Err n) e h same = omega arith
 
 -- ---- the reply of a writer: the text in the part that was lent, and its head before it
 
@@ -56,8 +57,8 @@ module _ (out part' : List ℕ) (at room : ℕ) (inside : at + 255 ≤ length ou
   lent_long = part_long out (at + 2) room (omega arith)
 
   -- what the head asks for, when a writer has answered to the room that it is lent
-  head_asks_all : (writes : ℕ → Answer (List ℕ)) (r : LengthResult) →
-      (of_length r ≡ length_of (writes (length lent))) × (part' ≡ afterwards lent (writes (length lent))) →
+  head_asks_all : (writes : ℕ → Answer (List ℕ)) (r : Result ℕ Refusal) →
+      (answer_of r ≡ length_of (writes (length lent))) × (part' ≡ afterwards lent (writes (length lent))) →
       (at + 255 ≤ length (put_mid (at + 2) room out part')) × (behind r ≤ 64)
   head_asks_all writes r wrote =
       let most = behind_fits lent part' (writes (length lent)) r wrote.0 wrote.1 same in
@@ -72,21 +73,21 @@ module _ (out part' : List ℕ) (at room : ℕ) (inside : at + 255 ≤ length ou
         let g : at + 2 + length text ≡ end = omega arith in
         record { wrote = rw (← g) (ahead (omega arith) there (rw h at w)); short = omega arith }
 
-    headed : (a : Answer (List ℕ)) (r : LengthResult) → of_length r ≡ length_of a → part' ≡ afterwards lent a →
+    headed : (a : Answer (List ℕ)) (r : Result ℕ Refusal) → answer_of r ≡ length_of a → part' ≡ afterwards lent a →
         Wrote (put_mid (at + 2) room out part') at (head_of r) out' (at + length (head_of r)) →
         end ≡ at + length (head_of r) + behind r → length (head_of r) ≤ 20 → Replied out at (shown_text a) out' end
-    headed (given text) (L.Length n) e h w f few = with_text text n (given_inj n (length text) e) h w f
-    headed (given text) (L.Refused n) e h w f few = never (length text) n e
-    headed (refused m) (L.Length n) e h w f few = never n m (sym e)
-    headed (refused m) (L.Refused n) e h w f few =
-        let same_number : n ≡ m = cc in
-        let g : at + length (head_of (L.Refused n)) ≡ end = omega arith in
+    headed (given text) (Ok n) e h w f few = with_text text n (given_inj n (length text) e) h w f
+    headed (given text) (Err n) e h w f few = never (length text) (refusal_number n) e
+    headed (refused m) (Ok n) e h w f few = never n m (sym e)
+    headed (refused m) (Err n) e h w f few =
+        let same_number : refusal_number n ≡ m = cc in
+        let g : at + length (head_of (Err n)) ≡ end = omega arith in
         let back : put_mid (at + 2) room out part' ≡ out = ap (put_mid (at + 2) room out) h ∙ put_same (at + 2) room out in
         rw (← same_number) (record { wrote = rw (← g) (rw back at w); short = omega arith })
 
     -- the reply is what it answers
-    text_replied_all : (writes : ℕ → Answer (List ℕ)) (r : LengthResult) →
-        (of_length r ≡ length_of (writes (length lent))) × (part' ≡ afterwards lent (writes (length lent))) →
+    text_replied_all : (writes : ℕ → Answer (List ℕ)) (r : Result ℕ Refusal) →
+        (answer_of r ≡ length_of (writes (length lent))) × (part' ≡ afterwards lent (writes (length lent))) →
         Wrote (put_mid (at + 2) room out part') at (head_of r) out' (at + length (head_of r)) ×
         ((end ≡ at + length (head_of r) + behind r) × (length (head_of r) ≤ 20)) →
         Replied out at (shown_text (writes room)) out' end
@@ -101,8 +102,8 @@ between_is : (at room : ℕ) → between at room ≡ room
 between_is at room = omega arith
 
 module _ (out part' : List ℕ) (at room : ℕ) (inside : at + 255 ≤ length out) (small : room ≤ 64)
-    (same : length part' ≡ length (mid_of (at + 2) (between at room) out)) (writes : ℕ → Answer (List ℕ)) (r : LengthResult)
-    (wrote : (of_length r ≡ length_of (writes (length (mid_of (at + 2) (between at room) out)))) ×
+    (same : length part' ≡ length (mid_of (at + 2) (between at room) out)) (writes : ℕ → Answer (List ℕ)) (r : Result ℕ Refusal)
+    (wrote : (answer_of r ≡ length_of (writes (length (mid_of (at + 2) (between at room) out)))) ×
     (part' ≡ afterwards (mid_of (at + 2) (between at room) out) (writes (length (mid_of (at + 2) (between at room) out))))) where
   few : between at room ≤ 64
   few = omega (arith, between_is at room)

@@ -1,15 +1,15 @@
 -- What stands before the text that a writer wrote, or the number of its refusal.
-use Rattle.std.specs.Prelude.{ℕ, List, [], ◌∷◌, pos}
+use Rattle.std.specs.Prelude.{Result, Ok, Err, ℕ, List, [], ◌∷◌, pos}
 use Rattle.lines.specs.Text.{digit_zero, space}
 use Rattle.writing.specs.Text.{decimal}
-use Rattle.date_text.specs.declared.LengthResult.{LengthResult}
-use Rattle.date_text.specs.declared.LengthResult.TheVariants as L
+use Rattle.refusal.specs.Refusals.{refusal_number}
+use Rattle.refusal.specs.declared.Refusal.{Refusal}
 
-abbrev pub head_of : LengthResult → List ℕ
-head_of (L.Length n) = digit_zero ∷ space ∷ []
-head_of (L.Refused n) = decimal (pos n)
+abbrev pub head_of : Result ℕ Refusal → List ℕ
+head_of (Ok n) = digit_zero ∷ space ∷ []
+head_of (Err e) = decimal (pos (refusal_number e))
 
 -- how many bytes stand behind it
-abbrev pub behind : LengthResult → ℕ
-behind (L.Length n) = n
-behind (L.Refused n) = 0
+abbrev pub behind : Result ℕ Refusal → ℕ
+behind (Ok n) = n
+behind (Err e) = 0

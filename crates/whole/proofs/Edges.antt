@@ -1,5 +1,5 @@
 -- What the functions of `inner` do to a number at the edge, over plain variables: each proof there cites these.
-use Prim.Native.Nat.{ℕ, zero, suc, ◌+◌, ◌-◌, ◌≤◌, ◌<◌, ◌^◌}
+use Prim.Native.Nat.{ℕ, ◌+◌, ◌≤◌, ◌<◌, ◌^◌}
 use native.Mathlib.Numerals.{add-one}
 use native.Mathlib.Omega.{arith}
 use mathlib.Core.Path.{◌≡◌, refl, sym, ◌∙◌, ap}
@@ -9,6 +9,7 @@ use lib.IntN.{ℤ, pos, negsuc, neg_ℤ, nat_abs, ◌+ℤ◌, ◌-ℤ◌}
 use lib.Signed.{lt_z, ◌≤ℤ◌, ◌<ℤ◌, non_neg, yes_non_neg, pos-nat_abs}
 use mir.Syntax.{w32, w64}
 use mir.Val.{SFits, Fits}
+use mir.Facts.{to_z-of_z}
 use Rattle.whole.specs.Whole.{◌⊖◌, clamp_z}
 use Rattle.whole.proofs.Laws.{up, ints, whole, read_add, read_diff, read_neg, range_of, size_of}
 
@@ -47,18 +48,21 @@ raise_room z k h l = omega (arith, ints, size_of z, read_diff 0 k, read_diff (2 
 pub raised_within : (z : ℤ) (r k n : ℕ) → z ≡ r ⊖ k → nat_abs z < n → n ≤ k → (k < r + n) × (r < k + n)
 raised_within z r k n e h l = omega (arith, ints, size_of z, read_diff r k)
 
--- an i32 lies within 2^31 of 0
-pub low32 : (y : ℤ) (k : ℕ) → SFits w32 y → 2 ^ 31 ≤ k → (0 ⊖ k) ≤ℤ y
-low32 y k f h = omega (arith, ints, read_diff 0 k, f.sfits, range_of y)
+-- a number of 32 bits has room, and stays within 2^31 of k
+pub raise_room32 : (y : ℤ) (k : ℕ) → SFits w32 y → 2 ^ 31 ≤ k → k < 2 ^ 62 → (k < 2 ^ 63) × (((0 ⊖ k) ≤ℤ y) × (y <ℤ ((2 ^ 63) ⊖ k)))
+raise_room32 y k f h l = omega (arith, ints, f.sfits, range_of y, read_diff 0 k, read_diff (2 ^ 63) k)
 
-pub high32 : (y : ℤ) (k : ℕ) → SFits w32 y → y <ℤ ((2 ^ 31 + k) ⊖ k)
-high32 y k f = omega (arith, ints, read_diff (2 ^ 31 + k) k, f.sfits, range_of y)
+pub raised32 : (y : ℤ) (r k : ℕ) → SFits w32 y → 2 ^ 31 ≤ k → y ≡ r ⊖ k → (r < 2 ^ 31 + k) × (k ≤ r + 2 ^ 31)
+raised32 y r k f h e = omega (arith, ints, read_diff r k, f.sfits, range_of y)
 
-pub high32_64 : (y : ℤ) (k : ℕ) → SFits w32 y → k < 2 ^ 62 → y <ℤ ((2 ^ 63) ⊖ k)
-high32_64 y k f h = omega (arith, ints, read_diff (2 ^ 63) k, f.sfits, range_of y)
+-- what is lowered to within 2^31 of 0 has room in 32 bits
+pub lowered32 : (z : ℤ) (u k : ℕ) → z ≡ u ⊖ k → u < 2 ^ 31 + k → k ≤ u + 2 ^ 31 → SFits w32 z
+lowered32 z u k e h l = record { sfits = omega (arith, ints, read_diff u k, range_of z) }
 
-pub raised32_low : (y : ℤ) (r k : ℕ) → SFits w32 y → y ≡ r ⊖ k → k ≤ r + 2 ^ 31
-raised32_low y r k f e = omega (arith, ints, read_diff r k, f.sfits, range_of y)
+-- for a function that raises numbers of 32 bits, or lowers naturals to them: what a local gives back is what went in
+pub ruleset raises = (to_z-of_z, raise_room32, raised32)
+
+pub ruleset lowers = (to_z-of_z, lowered32)
 
 -- u - k
 pub lowered_is : (u k : ℕ) → pos u -ℤ pos k ≡ u ⊖ k
@@ -66,9 +70,6 @@ lowered_is u k = simp whole (omega arith)
 
 pub lowered_fits : (u k : ℕ) → u < 2 ^ 63 → k < 2 ^ 63 → SFits w64 (pos u -ℤ pos k)
 lowered_fits u k h l = simp whole (omega arith)
-
-pub lowered_fits32 : (u k : ℕ) → u < 2 ^ 31 + k → k ≤ u + 2 ^ 31 → SFits w32 (pos u -ℤ pos k)
-lowered_fits32 u k h l = simp whole (omega arith)
 
 -- -1 - x, of a negative x, and back
 pub below_low : (x : ℤ) → x <ℤ pos 0 → pos 0 ≤ℤ (negsuc 0 -ℤ x)
@@ -106,10 +107,6 @@ unfolding clamp_z
 clamp_same x low high h k =
     let t : lt_z x low ≡ false = omega (arith, ints) in let s : lt_z high x ≡ false = omega (arith, ints) in rw (t, s)
 
--- a size and its sign
-pub negated_is : (n : ℕ) → (n ≡ 0 → ⊥) → negsuc (n - 1) ≡ neg_ℤ (pos n)
-negated_is zero h = absurd (h refl)
-negated_is (suc n) h = let e : suc n - 1 ≡ n = omega arith in ap negsuc e
-
+-- a depth and its size
 pub size_is : (x : ℤ) (n : ℕ) → x ≡ negsuc n → x ≡ neg_ℤ (pos (n + 1))
 size_is x n e = e ∙ sym (ap (λ (k : ℕ). neg_ℤ (pos k)) (add-one n))

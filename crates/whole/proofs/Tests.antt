@@ -1,6 +1,7 @@
 -- Tests together.
 use Prim.Native.Nat.{ℕ}
 use native.Mathlib.Omega.{arith}
+use Rattle.std.specs.Prelude.{Option, Some, None, SomeIff}
 use mathlib.Core.Path.{◌≡◌, refl, sym, ◌∙◌}
 use mathlib.Core.Bool.{Bool, true, false, ◌&&◌, ◌||◌}
 
@@ -57,3 +58,11 @@ together false false f g = refl
 pub alike : (a b : Bool) → (a ≡ true → b ≡ true) → (a ≡ false → b ≡ false) → a ≡ b
 alike true b f g = sym (f refl)
 alike false b f g = sym (g refl)
+
+-- ---- a checked sum: what it gave is the sum, and where it gave nothing there is no room for it
+
+pub checked_is : {A : Type 0} (P : Type 0) (o : Option A) (x z : A) → o ≡ Some x → SomeIff o P z → x ≡ z
+checked_is P o x z e h = (rw e at h).1
+
+pub checked_not : {A : Type 0} (P : Type 0) (o : Option A) (z : A) → o ≡ None → SomeIff o P z → P → ⊥
+checked_not P o z e h = rw e at h

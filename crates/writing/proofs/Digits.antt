@@ -1,7 +1,7 @@
--- The decimal digits of a number: one digit more, how many there are, and that the twenty of the definition are enough.
-use Prim.Native.Nat.{ℕ, zero, suc, ◌+◌, ◌/◌, ◌%◌, ◌^◌, ◌≤◌, ◌<◌}
+-- The decimal digits of a number: how many there are, and how they are stored from the last to the first.
+use Prim.Native.Nat.{ℕ, zero, suc, ◌+◌, ◌-◌, ◌*◌, ◌/◌, ◌%◌, ◌^◌, ◌≤◌, ◌<◌, max}
 use native.Mathlib.Omega.{arith}
-use mathlib.Core.Path.{◌≡◌, sym, ap, ◌∙◌}
+use mathlib.Core.Path.{◌≡◌, refl, sym, ap, ◌∙◌}
 use mathlib.Core.Logic.{⊎_elim}
 use mathlib.Core.List.{List, [], ◌∷◌, ◌++◌}
 use borrow.Author.Tests.{lt-ltb, le-ltb}
@@ -18,20 +18,6 @@ one_digit m n h = rw (lt-ltb n 10 h)
 pub more_digits : (m n : ℕ) → 10 ≤ n → digits (suc m) n ≡ digits m (n / 10) ++ ((digit_zero + n % 10) ∷ [])
 unfolding digits
 more_digits m n h = rw (le-ltb n 10 h)
-
--- room for more digits than there are changes nothing
-enough : (m n : ℕ) → n < 10 ^ suc m → digits (suc (suc m)) n ≡ digits (suc m) n
-enough zero n h = one_digit 1 n (omega arith) ∙ sym (one_digit 0 n (omega arith))
-enough (suc m) n h =
-    ⊎_elim
-    (λ l. one_digit (suc (suc m)) n l ∙ sym (one_digit (suc m) n l))
-    (λ l. more_digits (suc (suc m)) n l ∙ ap (λ (t : List ℕ). t ++ ((digit_zero + n % 10) ∷ [])) (enough m (n / 10) (omega arith)) ∙
-    sym (more_digits (suc m) n l))
-    (split n 10)
-
-pub last_digit : (n : ℕ) → n < 2 ^ 64 → 10 ≤ n → digits 20 n ≡ digits 20 (n / 10) ++ ((digit_zero + n % 10) ∷ [])
-last_digit n h l =
-    more_digits 19 n l ∙ ap (λ (t : List ℕ). t ++ ((digit_zero + n % 10) ∷ [])) (sym (enough 18 (n / 10) (omega arith)))
 
 -- ---- how many there are
 
@@ -52,21 +38,59 @@ few_digits (suc m) (suc k) n h =
     (λ l. rw (more_digits m n l, length-append) (omega (arith, few_digits m k (n / 10) (omega arith))))
     (split n 10)
 
-pub count_more : (n : ℕ) → n < 2 ^ 64 → 10 ≤ n → length (digits 20 n) ≡ suc (length (digits 20 (n / 10)))
-count_more n h l = ap length (last_digit n h l) ∙ (simp length-append (omega arith))
+pub several : (m n : ℕ) → 10 ≤ n → 1 < length (digits (suc (suc m)) n)
+several m n l = rw (more_digits (suc m) n l, length-append) (omega (arith, some_digit m (n / 10)))
+
+power : (k : ℕ) → 0 < 10 ^ k
+power zero = omega arith
+power (suc k) = omega (arith, power k)
+
+-- a number from 10^k up, and below 10 times that, has k + 1
+pub count_is : (m k n : ℕ) → k < m → 10 ^ k ≤ n → n < 10 * 10 ^ k → length (digits m n) ≡ k + 1
+count_is zero k n h l g = let f : ⊥ = omega arith in absurd f
+count_is (suc m) zero n h l g = rw (one_digit m n (omega arith)) refl
+count_is (suc m) (suc k) n h l g =
+    let big : 10 ≤ n = omega (arith, power k) in
+    rw (more_digits m n big, length-append) (omega (arith, count_is m k (n / 10) (omega arith) (omega arith) (omega arith)))
 
 pub count_one : (n : ℕ) → n < 10 → length (digits 20 n) ≡ 1
 count_one n h = ap length (one_digit 19 n h)
 
+pub count_max : (n k : ℕ) → k < 20 → 10 ^ k ≤ max n 1 → max n 1 < 10 * 10 ^ k → k + 1 ≡ length (digits 20 n)
+count_max zero k h l g = sym (count_is 20 k 1 h l g) ∙ count_one 1 (omega arith) ∙ sym (count_one 0 (omega arith))
+count_max (suc n) k h l g = sym (count_is 20 k (suc n) h (omega arith) (omega arith))
+
 -- ---- written from the last to the first
 
-module _ (l : List ℕ) (at n i : ℕ) (here : i + 1 ≡ at + length (digits 20 n)) (inside : i < length l) where
-  pub put_digit : n < 2 ^ 64 → 10 ≤ n → placed (set l i (digit_zero + n % 10)) at (digits 20 (n / 10)) ≡ placed l at (digits 20 n)
-  put_digit h g =
-      let e : i ≡ at + length (digits 20 (n / 10)) = omega (arith, count_more n h g) in
-      put_last l at (digits 20 (n / 10)) (digit_zero + n % 10) i e inside ∙ ap (placed l at) (sym (last_digit n h g))
+-- the last k digits of n, with zeros before them where n has fewer
+unfoldable pub padded : ℕ → ℕ → List ℕ
+padded zero n = []
+padded (suc k) n = padded k (n / 10) ++ ((digit_zero + n % 10) ∷ [])
 
-  pub put_first : n < 10 → set l i (digit_zero + n) ≡ placed l at (digits 20 n)
-  put_first h =
-      let e : i ≡ at + 0 = omega (arith, count_one n h) in
-      sym (placed_none (set l i (digit_zero + n)) at) ∙ put_last l at [] (digit_zero + n) i e inside ∙ ap (placed l at) (sym (one_digit 19 n h))
+length-padded : (k n : ℕ) → length (padded k n) ≡ k
+unfolding padded
+length-padded zero n = refl
+length-padded (suc k) n = rw (length-append) (omega (arith, length-padded k (n / 10)))
+
+pub padded_all : (m n : ℕ) → padded (length (digits m n)) n ≡ digits m n
+unfolding digits padded
+padded_all zero n = refl
+padded_all (suc m) n =
+    ⊎_elim
+    (λ l. let e : n % 10 ≡ n = omega arith in rw (one_digit m n l, e))
+    (λ l. let e : length (digits (suc m) n) ≡ suc (length (digits m (n / 10))) = rw (more_digits m n l, length-append) (omega arith) in
+    rw (e, more_digits m n l) (ap (λ (t : List ℕ). t ++ ((digit_zero + n % 10) ∷ [])) (padded_all m (n / 10))))
+    (split n 10)
+
+-- one more of them is stored before those that stand already
+pub put_next : (l : List ℕ) (at i left : ℕ) → at ≤ i → i < length l →
+    placed (set l i (digit_zero + left % 10)) at (padded (i - at) (left / 10)) ≡ placed l at (padded (i + 1 - at) left)
+unfolding padded
+put_next l at i left h inside =
+    let e : i + 1 - at ≡ suc (i - at) = omega arith in
+    let f : i ≡ at + length (padded (i - at) (left / 10)) = omega (arith, length-padded (i - at) (left / 10)) in
+    rw e (put_last l at (padded (i - at) (left / 10)) (digit_zero + left % 10) i f inside)
+
+pub put_none : (l : List ℕ) (at i left : ℕ) → i ≤ at → l ≡ placed l at (padded (i - at) left)
+unfolding padded
+put_none l at i left h = let e : i - at ≡ 0 = omega arith in rw e (sym (placed_none l at))

@@ -1,7 +1,7 @@
 -- What is written is read back: the text of a number of 64 bits, with a sign or without, says that number.
 use Prim.Native.Nat.{ℕ, zero, suc, ◌+◌, ◌-◌, ◌*◌, ◌/◌, ◌%◌, ◌^◌, ◌≤◌, ◌<◌, min}
 use native.Mathlib.Omega.{arith}
-use mathlib.Core.Path.{◌≡◌, refl, ap, ◌∙◌}
+use mathlib.Core.Path.{◌≡◌, refl, sym, ap, ◌∙◌}
 use mathlib.Core.Logic.{⊎_elim}
 use mathlib.Core.Bool.{Bool, true, ◌&&◌}
 use mathlib.Core.List.{List, [], ◌∷◌, ◌++◌}
@@ -9,11 +9,12 @@ use borrow.Author.Tests.{lt-ltb, le-leb}
 use lib.IntN.{ℤ, pos, negsuc, neg_ℤ}
 use lib.Signed.{◌≤ℤ◌, ◌<ℤ◌}
 use lib.ListN.{get_or, get_or-append}
+use lib.Seq.{take_all}
 use Rattle.whole.proofs.Laws.{split, ints}
 use Rattle.lines.specs.Text.{number, digit_zero, minus_sign, is_digit, all_digits, value_from, natural_of, number_of}
 use Rattle.writing.specs.Text.{digits, decimal}
-use Rattle.writing.proofs.Digits.{one_digit, more_digits, some_digit, count_one, count_more}
-use Rattle.lines.proofs.Numbers.{read_from, natural_one, natural_more, number_plain, number_minus, negative_some}
+use Rattle.writing.proofs.Digits.{one_digit, more_digits, some_digit, several, count_one}
+use Rattle.lines.proofs.Numbers.{read_from, natural_one, natural_more, number_plain, number_minus, unsigned, negative_some}
 
 -- the digits of a number are digits
 
@@ -69,16 +70,16 @@ natural_back n h =
     let r : read_from 0 (digits 20 n) ≡ number (pos n) = rw (all_digits_lem 20 n, v, lt-ltb n (2 ^ 64) h) in
     ⊎_elim
     (λ l. natural_one (digits 20 n) (omega (arith, count_one n l)) (omega (arith, count_one n l)) ∙ r)
-    (λ l. natural_more (digits 20 n) (omega (arith, count_more n h l, some_digit 19 (n / 10))) (omega (arith, first 19 n (omega arith))) ∙ r)
+    (λ l. natural_more (digits 20 n) (several 18 n l) (omega (arith, first 19 n (omega arith))) ∙ r)
     (split n 10)
 
 pub read_back : (z : ℤ) → neg_ℤ (pos (2 ^ 63)) ≤ℤ z → z <ℤ pos (2 ^ 64) → number_of (decimal z) ≡ number z
 unfolding decimal
 read_back (pos n) low high =
     let h : n < 2 ^ 64 = omega (arith, ints) in
-    number_plain (digits 20 n) (omega (arith, some_digit 19 n)) (omega (arith, first 19 n (omega arith))) ∙ natural_back n h
+    number_plain (digits 20 n) (omega (arith, first 19 n (omega arith))) ∙ natural_back n h
 read_back (negsuc n) low high =
     let h : suc n ≤ 2 ^ 63 = omega (arith, ints) in
-    let e : suc n - 1 ≡ n = omega arith in
-    number_minus (minus_sign ∷ digits 20 (suc n)) (omega arith) refl ∙
-    negative_some (digits 20 (suc n)) (suc n) (natural_back (suc n) (omega arith)) (omega arith) h ∙ ap (λ (k : ℕ). number (negsuc k)) e
+    let e : unsigned (minus_sign ∷ digits 20 (suc n)) ≡ digits 20 (suc n) = take_all _ _ (omega arith) in
+    number_minus (minus_sign ∷ digits 20 (suc n)) refl ∙
+    rw e (sym (negative_some (digits 20 (suc n)) (suc n) (sym (natural_back (suc n) (omega arith))) (omega arith) h))

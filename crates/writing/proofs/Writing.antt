@@ -39,12 +39,6 @@ placed_wrote l l' at text end room e f =
       sized = ap length e ∙ (simp (length-append, length-drop, n) (omega arith));
     }
 
-pub put_one : (l : List ℕ) (at b : ℕ) → at < length l → Wrote l at (b ∷ []) (set l at b) (at + 1)
-put_one l at b h =
-    placed_wrote l (set l at b) at (b ∷ []) (at + 1) (omega arith)
-    (sym (placed_none (set l at b) at) ∙ put_last l at [] b at (omega arith) h)
-    refl
-
 -- one text after another
 pub after : {a b c s t : List ℕ} {at m n : ℕ} → Wrote a at s b m → Wrote b m t c n → Wrote a at (s ++ t) c n
 after {a} {b} {c} {s} {t} {at} {m} {n} v w =

@@ -1,10 +1,9 @@
 // Numbers written into a lent buffer, from a place of it on. Each function returns the place after what it wrote.
+// A buffer and a place in it, as the public calls of date text lend slices of any length, and promise every byte (`Wrote`).
 ghost use Rattle.std.specs.Prelude.{◌≡◌, [], ◌∷◌, ◌+◌, ◌≤◌, ◌<◌, pos, length};
 ghost use Rattle.lines.specs.Text.{space};
 ghost use Rattle.writing.specs.Text.{digits, decimal};
 ghost use Rattle.writing.specs.Wrote.{Wrote};
-
-use whole::inner::{to_depth, to_natural};
 
 // Writes one byte.
 pub fn put_byte(out: &mut [u8], at: usize, b: u8) -> usize
@@ -21,12 +20,11 @@ pub fn put_integer(out: &mut [u8], at: usize, z: i64) -> usize
     requires { at + 21 ≤ length out.old }
     ensures { Wrote out.old at (space ∷ decimal z) out.new result × (result ≤ at + 21) }
 {
-    let next = put_byte(out, at, b' ');
+    let mut next = put_byte(out, at, b' ');
     if z < 0 {
-        let start = put_byte(out, next, b'-');
-        return put_digits(out, start, to_depth(z) + 1);
+        next = put_byte(out, next, b'-');
     }
-    put_digits(out, next, to_natural(z))
+    put_digits(out, next, z.unsigned_abs())
 }
 
 // Writes a value that is never negative: a space, and a natural.
@@ -46,13 +44,10 @@ pub fn put_digits(out: &mut [u8], at: usize, n: u64) -> usize
 {
     let end = at + digit_count(n);
     let mut left = n;
-    let mut i = end - 1;
-    while 10 <= left {
+    for i in (at..end).rev() {
         out[i] = b'0' + (left % 10) as u8;
         left /= 10;
-        i -= 1;
     }
-    out[i] = b'0' + left as u8;
     end
 }
 
@@ -60,11 +55,5 @@ pub fn put_digits(out: &mut [u8], at: usize, n: u64) -> usize
 fn digit_count(n: u64) -> usize
     ensures { result ≡ length (digits 20 n) }
 {
-    let mut count: usize = 1;
-    let mut left = n;
-    while 10 <= left {
-        left /= 10;
-        count += 1;
-    }
-    count
+    n.max(1).ilog10() as usize + 1
 }

@@ -1,77 +1,85 @@
 // The calls on times and the number rounder: the numbers of a request as the call's parameters, the call, and its answer as the reply.
-ghost use Rattle.parameters.specs.Meaning.{numbers_in};
 ghost use Rattle.replies.specs.Replies.{Replied};
 ghost use Rattle.calls.specs.Table.{takes_of, answers_of};
 ghost use Rattle.calls.specs.Ready.{Ready};
 
 use iso_time::IsoTime;
-use parameters::Numbers;
+use parameters::inner::number;
 use parameters::inner::values::{mode, overflow, time, unit};
-use parameters::inner::{long, word};
-use replies::inner::{balance_reply, rounded_reply, span_reply, time_reply};
+use replies::inner::reply;
 
-pub fn regulate_time(n: Numbers, out: &mut [u8], at: usize) -> usize
-    requires { Ready (takes_of "regulate_time") n at out.old }
-    ensures { Replied out.old at (answers_of "regulate_time" (numbers_in n)) out.new result }
+pub fn regulate_time(n: &[i128], out: &mut [u8], at: usize) -> usize
+    requires { Ready (takes_of "regulate_time") n.now at out.old }
+    ensures { Replied out.old at (answers_of "regulate_time" n.now) out.new result }
 {
     let time = time(n, 0);
-    let answer = IsoTime::new(
-        time.hour,
-        time.minute,
-        time.second,
-        time.millisecond,
-        time.microsecond,
-        time.nanosecond,
-        overflow(n, 6),
-    );
-    time_reply(out, at, answer)
+    reply(
+        out,
+        at,
+        IsoTime::new(
+            time.hour,
+            time.minute,
+            time.second,
+            time.millisecond,
+            time.microsecond,
+            time.nanosecond,
+            overflow(n, 6),
+        ),
+    )
 }
 
-pub fn balance_time(n: Numbers, out: &mut [u8], at: usize) -> usize
-    requires { Ready (takes_of "balance_time") n at out.old }
-    ensures { Replied out.old at (answers_of "balance_time" (numbers_in n)) out.new result }
+pub fn balance_time(n: &[i128], out: &mut [u8], at: usize) -> usize
+    requires { Ready (takes_of "balance_time") n.now at out.old }
+    ensures { Replied out.old at (answers_of "balance_time" n.now) out.new result }
 {
-    let answer = IsoTime::balance(
-        long(n, 0),
-        long(n, 1),
-        long(n, 2),
-        long(n, 3),
-        long(n, 4),
-        long(n, 5),
-    );
-    balance_reply(out, at, answer)
+    reply(
+        out,
+        at,
+        IsoTime::balance(
+            number(n, 0),
+            number(n, 1),
+            number(n, 2),
+            number(n, 3),
+            number(n, 4),
+            number(n, 5),
+        ),
+    )
 }
 
-pub fn time_difference(n: Numbers, out: &mut [u8], at: usize) -> usize
-    requires { Ready (takes_of "time_difference") n at out.old }
-    ensures { Replied out.old at (answers_of "time_difference" (numbers_in n)) out.new result }
+pub fn time_difference(n: &[i128], out: &mut [u8], at: usize) -> usize
+    requires { Ready (takes_of "time_difference") n.now at out.old }
+    ensures { Replied out.old at (answers_of "time_difference" n.now) out.new result }
 {
     let one = time(n, 0);
-    let answer = one.diff(time(n, 6));
-    span_reply(out, at, answer)
+    reply(out, at, one.diff(time(n, 6)))
 }
 
-pub fn round_number(n: Numbers, out: &mut [u8], at: usize) -> usize
-    requires { Ready (takes_of "round_number") n at out.old }
-    ensures { Replied out.old at (answers_of "round_number" (numbers_in n)) out.new result }
+pub fn round_number(n: &[i128], out: &mut [u8], at: usize) -> usize
+    requires { Ready (takes_of "round_number") n.now at out.old }
+    ensures { Replied out.old at (answers_of "round_number" n.now) out.new result }
 {
-    let answer = rounding::round(long(n, 0), word(n, 1), mode(n, 2));
-    rounded_reply(out, at, answer)
+    reply(
+        out,
+        at,
+        rounding::round(number(n, 0), number(n, 1), mode(n, 2)),
+    )
 }
 
-pub fn round_number_as_if_positive(n: Numbers, out: &mut [u8], at: usize) -> usize
-    requires { Ready (takes_of "round_number_as_if_positive") n at out.old }
-    ensures { Replied out.old at (answers_of "round_number_as_if_positive" (numbers_in n)) out.new result }
+pub fn round_number_as_if_positive(n: &[i128], out: &mut [u8], at: usize) -> usize
+    requires { Ready (takes_of "round_number_as_if_positive") n.now at out.old }
+    ensures { Replied out.old at (answers_of "round_number_as_if_positive" n.now) out.new result }
 {
-    let answer = rounding::round_as_if_positive(long(n, 0), word(n, 1), mode(n, 2));
-    rounded_reply(out, at, answer)
+    reply(
+        out,
+        at,
+        rounding::round_as_if_positive(number(n, 0), number(n, 1), mode(n, 2)),
+    )
 }
 
-pub fn round_time(n: Numbers, out: &mut [u8], at: usize) -> usize
-    requires { Ready (takes_of "round_time") n at out.old }
-    ensures { Replied out.old at (answers_of "round_time" (numbers_in n)) out.new result }
+pub fn round_time(n: &[i128], out: &mut [u8], at: usize) -> usize
+    requires { Ready (takes_of "round_time") n.now at out.old }
+    ensures { Replied out.old at (answers_of "round_time" n.now) out.new result }
 {
     let time = time(n, 0);
-    let answer = time.round(unit(n, 6), word(n, 7), mode(n, 8));
-    balance_reply(out, at, answer)
+    reply(out, at, time.round(unit(n, 6), number(n, 7), mode(n, 8)))
 }
