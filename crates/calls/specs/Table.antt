@@ -130,3 +130,10 @@ takes_of name = (row_named calls (bytes name)).takes
 
 abbrev pub answers_of : String → List ℤ → Answer (List ℕ)
 answers_of name = (row_named calls (bytes name)).answers
+
+abbrev text_row_named : List TextRow → List ℕ → TextRow
+text_row_named [] name = text_row "" (λ text. given [])
+text_row_named (r ∷ rs) name = cond (same_bytes name (bytes r.name)) r (text_row_named rs name)
+
+abbrev pub text_answers_of : String → List ℕ → Answer (List ℕ)
+text_answers_of name = (text_row_named text_calls (bytes name)).answers

@@ -4,9 +4,10 @@
 // bytes are read and the answers written, and what the system refuses is told on standard error.
 #![tactic(auto)]
 
-ghost use Rattle.std.specs.Prelude.{◌≡◌, ◌≤◌, length, IfOk};
+ghost use Rattle.std.specs.Prelude.{◌≡◌, ◌≤◌, length, IfOk, Ok};
 ghost use Rattle.requests.specs.Requests.{line_room};
 ghost use Rattle.stream.specs.Stream.{response_room, buffered, kept, kept_after};
+ghost use Rattle.stream.specs.declared.inner.Pending.TheVariants.{Buffered};
 
 use std::io::{Error, ErrorKind, Read, Write};
 use std::thread::yield_now;
@@ -97,7 +98,7 @@ fn answer_block(
     Ok(state.pending)
 }
 
-// Answers a last line that no newline ends.
+// Answers a last line that no newline ends. Where there is none, nothing is written, and nothing can fail.
 fn answer_last(
     rt: &HostRuntime,
     line: &[u8],
@@ -105,6 +106,7 @@ fn answer_last(
     pending: Pending,
 ) -> Result<(), Failure>
     requires { (buffered pending ≤ length line.now) × (response_room ≤ length out.old) }
+    ensures { pending ≡ Buffered 0 → result ≡ Ok tt }
 {
     let state = Progress {
         at: 0,
@@ -115,7 +117,12 @@ fn answer_last(
     write_out(rt, &out[..filled])
 }
 
-// Writes the answers to standard output.
-fn write_out(rt: &HostRuntime, answers: &[u8]) -> Result<(), Failure> {
+// Writes the answers to standard output; where there are none, nothing can fail.
+fn write_out(rt: &HostRuntime, answers: &[u8]) -> Result<(), Failure>
+    ensures { length answers.now ≡ 0 → result ≡ Ok tt }
+{
+    if answers.is_empty() {
+        return Ok(());
+    }
     rt.stdout().write_all(answers).map_err(Failure::Write)
 }

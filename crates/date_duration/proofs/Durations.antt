@@ -6,7 +6,7 @@ use mathlib.Core.Bool.{Bool, true, false, ◌&&◌, ◌||◌}
 use borrow.Author.Tests.{leb-true, leb-false, lt-ltb, le-ltb, ltb-true}
 use lib.Dec.{leb, ltb}
 use lib.IntN.{ℤ, pos, negsuc, neg_ℤ, nat_abs, ◌-ℤ◌, +ℤ_idl}
-use lib.Signed.{lt_z}
+use lib.Signed.{lt_z, mag}
 use mir.Facts.{to_z-of_z}
 use mir.Syntax.{w64}
 use mir.Val.{SFits, to_z, of_z}
@@ -21,9 +21,8 @@ use Rattle.whole.proofs.Tests.{alike, both, and_assoc}
 use Rattle.refusal.specs.Answer.{Answer, number_of, given, refused, check}
 use Rattle.refusal.proofs.Answers.{given_inj, never}
 use Rattle.date_duration.specs.Proposal.{any_below, any_above, duration, absolute, negation, adjusted, small, small_days, all_small, is_valid_duration}
-use Rattle.date_duration.specs.Inner.{sign_from}
 use Rattle.date_duration.specs.Proposal.{sign_of, or_else, date_duration_sign}
-use Rattle.date_duration.specs.Paper.{new_duration, duration_sign, duration_abs, duration_negated, duration_adjust}
+use Rattle.date_duration.specs.Paper.{sign_from, new_duration, duration_sign, duration_abs, duration_negated, duration_adjust}
 use Rattle.date_duration.specs.declared.DateDuration.{DateDuration}
 
 -- ---- parts
@@ -70,6 +69,34 @@ bounded d e =
       weeks_low = ltb-true _ _ c.0;
       days_low = omega (arith, ltb-true (nat_abs d.days * 86400) (2 ^ 53) c.1);
     }
+
+-- and so can be turned; each as a local hands it back
+pub record Turnable (z : ℤ) : Type 0 where
+  pub fits : SFits w64 z
+  pub low : nat_abs z < 2 ^ 62
+
+pub record AllTurnable (d : DateDuration) : Type 0 where
+  pub of_years : Turnable d.years
+  pub of_months : Turnable d.months
+  pub of_weeks : Turnable d.weeks
+  pub of_days : Turnable d.days
+
+-- the parts of a record that was handed over: each fits 64 bits
+module _ (d : DateDuration) (y : mag d.years < 2 ^ 63) (m : mag d.months < 2 ^ 63) (w : mag d.weeks < 2 ^ 63)
+    (n : mag d.days < 2 ^ 63) where
+  pub turnable : is_valid_duration d ≡ true → AllTurnable d
+  turnable e =
+      let b = bounded d e in
+      record {
+        of_years = record { fits = record { sfits = y }; low = omega arith };
+        of_months = record { fits = record { sfits = m }; low = omega arith };
+        of_weeks = record { fits = record { sfits = w }; low = omega arith };
+        of_days = record { fits = record { sfits = n }; low = omega arith };
+      }
+
+module _ {z : ℤ} (p : Turnable z) where
+  pub turn_fits : SFits w64 (pos 0 -ℤ to_z w64 (of_z w64 z))
+  turn_fits = rw (to_z-of_z p.fits, +ℤ_idl (neg_ℤ z)) (omega (arith, p.low, read_neg z, size_of z, range_of z, range_of (neg_ℤ z)))
 
 -- ---- tests of part after part
 
@@ -168,8 +195,8 @@ module _ (d x : DateDuration) (e : given x ≡ new_duration d) where
 
 -- ---- parts as locals hand them back
 
-pub turn_fits : (z : ℤ) → nat_abs z < 2 ^ 38 → SFits w64 (neg_ℤ z)
-turn_fits z h = omega (arith, read_neg z, size_of z, range_of z, range_of (neg_ℤ z))
+pub negated_fits : (z : ℤ) → nat_abs z < 2 ^ 38 → SFits w64 (neg_ℤ z)
+negated_fits z h = omega (arith, read_neg z, size_of z, range_of z, range_of (neg_ℤ z))
 
 module _ (z : ℤ) (f : SFits w64 z) where
   pub size_is : (r : ℤ) → SFits w64 r → r ≡ pos (nat_abs (to_z w64 (of_z w64 z))) → to_z w64 (of_z w64 r) ≡ pos (nat_abs z)
@@ -184,4 +211,4 @@ module _ (z : ℤ) (f : SFits w64 z) where
 -- for the calls, by name
 pub ruleset sign_laws = (unchecked, sign_given)
 
-pub ruleset abs_laws = (unchecked, checked_valid, bounded, turn_fits)
+pub ruleset abs_laws = (unchecked, checked_valid, bounded, negated_fits)

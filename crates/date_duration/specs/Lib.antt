@@ -1,3 +1,2 @@
-pub mod Inner
 pub mod Paper
 pub mod Proposal

@@ -5,8 +5,7 @@ ghost use Rattle.std.specs.Prelude.{◌≡◌, ◌&&◌};
 ghost use Rattle.refusal.specs.Refusals.{answer_of};
 ghost use Rattle.date_duration.specs.Proposal.{duration, all_small, any_below, any_above};
 ghost use Rattle.date_duration.specs.Proposal.{is_valid_duration};
-ghost use Rattle.date_duration.specs.Inner.{sign_from};
-ghost use Rattle.date_duration.specs.Paper.{new_duration, duration_sign, duration_abs, duration_negated, duration_adjust};
+ghost use Rattle.date_duration.specs.Paper.{sign_from, new_duration, duration_sign, duration_abs, duration_negated, duration_adjust};
 
 use refusal::Refusal;
 use std::cmp::Ordering;

@@ -59,7 +59,9 @@ pub fn time_at(text: &[u8]) -> Option<(IsoTime, &[u8])>
     let Some((second, rest)) = read_marked(rest, b':', 2) else {
         return Some((clock(hour, minute, 0, 0), rest));
     };
-    let (billionths, rest) = read_fraction(rest).unwrap_or((0, rest));
+    let Some((billionths, rest)) = read_fraction(rest) else {
+        return Some((clock(hour, minute, second, 0), rest));
+    };
     Some((clock(hour, minute, second, billionths), rest))
 }
 

@@ -87,13 +87,14 @@ fn years_and_months(unit: Unit, gap: u64, apart: u64) -> Trial
     ensures { ((result.years ≡ years_in unit gap) × (result.months ≡ months_in unit gap)) ×
         ((384 * result.years + 32 * result.months ≤ gap) × (result.tries ≡ tries_in unit gap apart)) }
 {
-    if unit > Unit::Month || gap == 0 {
+    let rank = unit.rank();
+    if rank > Unit::Month.rank() || gap == 0 {
         return Trial::default();
     }
     let years = most_kept(gap, PLACES_PER_YEAR, apart.saturating_sub(1));
     let months = most_kept(gap - PLACES_PER_YEAR * years.count, PLACES_PER_MONTH, 1);
     let tries = years.tries + months.tries;
-    if unit == Unit::Year {
+    if rank == Unit::Year.rank() {
         return Trial {
             years: years.count,
             months: months.count,
@@ -140,7 +141,11 @@ fn rest_start(valid: ValidDate, forward: bool, months: u64) -> u64
 fn weeks_of(unit: Unit, rest: u64) -> u64
     ensures { (result ≡ weeks_in unit rest) × (7 * result ≤ rest) }
 {
-    if unit == Unit::Week { rest / 7 } else { 0 }
+    if unit.rank() == Unit::Week.rank() {
+        rest / 7
+    } else {
+        0
+    }
 }
 
 // Counts are worked out as naturals, and the direction is put to them last. The four take the same sign, so that no part opposes another.

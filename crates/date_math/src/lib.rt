@@ -52,7 +52,7 @@ pub fn diff_iso_date(one: IsoDate, two: IsoDate, unit: Unit) -> Result<DateDiffe
 {
     let one = one.within_limits()?;
     let two = two.within_limits()?;
-    if unit > Unit::Day {
+    if unit.rank() > Unit::Day.rank() {
         return Err(Refusal::Unit);
     }
     Ok(inner::difference(one, two, unit))

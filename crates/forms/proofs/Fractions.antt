@@ -5,23 +5,18 @@ use native.Mathlib.Nat.{pow-suc, add-zero, mul-one, mul_comm, mul_assoc, mul-lt-
 use lib.Pow.{pow-add}
 use mathlib.Core.Path.{◌≡◌, refl, sym, ap, ap₂, ◌∙◌}
 use mathlib.Core.Bool.{Bool, true, false}
-use mathlib.Core.Logic.{◌⊎◌, ⊎_elim}
 use mathlib.Core.List.{List, [], ◌∷◌, ◌++◌, append_assoc, append-nil}
 use borrow.Author.Tests.{le-leb, lt-leb, ne_eqb}
 use lib.Dec.{leb}
-use lib.ListN.{length, get_or, drop, take, replicate}
-use lib.Seq.{drop-cons, take-append_seam, drop-append_seam}
+use lib.ListN.{length, get_or, replicate, length-append}
 use Rattle.whole.proofs.Tests.{and_false}
+use Rattle.whole.proofs.Every.{every_equal}
 use Rattle.lines.specs.Text.{digit_zero, is_digit}
 use Rattle.forms.specs.Forms.{Parsed, took, nothing, then_read, digit, digits, padded, run, filled, keep, trimmed, point, pointed, fraction_text}
 use Rattle.forms.specs.Pieces.{Trims}
 use Rattle.forms.specs.declared.Trimmed.{Trimmed}
 use Rattle.forms.proofs.Digits.{some}
-use Rattle.std.specs.List.{prefix_len}
-use Rattle.std.specs.Char.{is_ascii_digit}
-use Rattle.std.proofs.lemmas.List.Sums.{prefix_len-le-length, prefix_len_passes}
-use Rattle.std.proofs.lemmas.List.Folds.{length-prefix_len}
-use Rattle.forms.proofs.Padded.{never_took, padded_length, digit_is, digits_back, took_inj, digits_only}
+use Rattle.forms.proofs.Padded.{never_took, padded_length, digit_is, digits_back, took_inj, digit_only, digits_only}
 
 -- ---- the digits that stand there
 
@@ -52,6 +47,13 @@ run_padded (suc n) v rest =
 
 -- ---- filled up
 
+abbrev places : List ℕ
+places =
+    1_000_000_000 ∷ 100_000_000 ∷ 10_000_000 ∷ 1_000_000 ∷ 100_000 ∷ 10_000 ∷ 1_000 ∷ 100 ∷ 10 ∷ 1 ∷ []
+
+pub place_is : (i : ℕ) → i ≤ 9 → get_or places i 0 ≡ 10 ^ (9 - i)
+place_is i h = every_equal (λ k. get_or places k 0) (λ k. 10 ^ (9 - k)) 10 tt i (omega arith)
+
 -- zeros behind the digits
 zeros_behind : (k n v : ℕ) → padded n v ++ replicate k digit_zero ≡ padded (n + k) (v * 10 ^ k)
 unfolding padded
@@ -70,6 +72,9 @@ filled_small i v few small =
     let whole : 10 ^ 9 ≡ 10 ^ i * 10 ^ (9 - i) = ap (λ (k : ℕ). 10 ^ k) (sym e) ∙ pow-add 10 i (9 - i) in
     rw whole (mul-lt-mul_of_pos_right small (some (9 - i)))
 
+pub placed_small : (i v : ℕ) → i ≤ 9 → v < 10 ^ i → v * get_or places i 0 < 10 ^ 9
+placed_small i v few small = rw (place_is i few) (filled_small i v few small)
+
 pub filled_is : (i v : ℕ) (after : List ℕ) → 0 < i → i ≤ 9 → v < 10 ^ i → filled (padded i v) after ≡ took (v * 10 ^ (9 - i)) after
 unfolding filled
 filled_is i v after few many small =
@@ -79,50 +84,54 @@ filled_is i v after few many small =
     digits_back 9 (v * 10 ^ (9 - i)) [] (filled_small i v many small) in
     rw (padded_length i v, le-leb 1 i few, le-leb i 9 many, nine)
 
--- ---- as many as there are
+filled_none : (i v : ℕ) (after : List ℕ) → i ≡ 0 → filled (padded i v) after ≡ nothing
+unfolding filled padded
+filled_none i v after e = rw e
 
-abbrev count : List ℕ → ℕ
-count text = prefix_len is_ascii_digit text
-
-run_is : (text : List ℕ) → run text ≡ took (take (count text) text) (drop (count text) text)
-unfolding run
-run_is [] = refl
-run_is (b ∷ rest) = by_test (is_digit b) refl (run_is rest)
-  where
-    by_test : (t : Bool) → is_digit b ≡ t → run rest ≡ took (take (count rest) rest) (drop (count rest) rest) →
-        run (b ∷ rest) ≡ took (take (count (b ∷ rest)) (b ∷ rest)) (drop (count (b ∷ rest)) (b ∷ rest))
-    by_test false e more = rw e
-    by_test true e more = let one : 1 + count rest ≡ suc (count rest) = omega arith in rw (e, one, more)
-
-pub no_fraction : (text : List ℕ) → count text ≡ 0 ⊎ 9 < count text → then_read (run text) filled ≡ nothing
+-- one digit more than nine
+filled_many : (p : Parsed (List ℕ)) (v b : ℕ) →
+    then_read (then_read p (λ ds after. took (b ∷ ds) after)) (λ ds after. filled (padded 9 v ++ ds) after) ≡ nothing
 unfolding filled
-no_fraction text h =
-    let long : length (take (count text) text) ≡ count text = length-prefix_len is_ascii_digit text in
-    rw (run_is text, long)
-    (⊎_elim (λ z. let few : count text < 1 = omega arith in rw (lt-leb 1 (count text) few))
-    (λ many. rw (lt-leb (count text) 9 many, and_false (leb 1 (count text)))) h)
+filled_many nothing v b = refl
+filled_many (took ds after) v b =
+    let long : 9 < length (padded 9 v ++ (b ∷ ds)) = rw (length-append (padded 9 v) (b ∷ ds), padded_length 9 v) (omega arith) in
+    rw (lt-leb (length (padded 9 v ++ (b ∷ ds))) 9 long) (rw (and_false (leb 1 (length (padded 9 v ++ (b ∷ ds))))))
 
-digits_stand : (k : ℕ) (text : List ℕ) → k ≤ count text → (v : ℕ) × (digits k text ≡ took v (drop k text))
-unfolding digits digit
-digits_stand zero text h = (0, refl)
-digits_stand (suc k) text h =
-    let before = digits_stand k text (omega arith) in
-    let inside : k < length text = omega (arith, prefix_len-le-length is_ascii_digit text) in
-    let good : is_digit (get_or text k 0) ≡ true = prefix_len_passes is_ascii_digit text k 0 (omega arith) in
-    (10 * before.0 + (get_or text k 0 - digit_zero), rw (before.1, drop-cons text k 0 inside, good))
+-- ---- the answers of the function that reads
 
-pub all_stand : (text : List ℕ) → digits (count text) text ≡ nothing → ⊥
-all_stand text none = let d = digits_stand (count text) text (omega arith) in never_took d.0 (drop (count text) text) (sym none ∙ d.1)
+run_ends : (rest : List ℕ) → digit rest ≡ nothing → run rest ≡ took [] rest
+unfolding run digit
+run_ends [] none = refl
+run_ends (b ∷ rest) none = by_test (is_digit b) refl
+  where
+    by_test : (t : Bool) → is_digit b ≡ t → run (b ∷ rest) ≡ took [] (b ∷ rest)
+    by_test false bad = rw bad
+    by_test true good = never_took (b - digit_zero) rest (sym none ∙ rw good)
 
-apart : (text front rest : List ℕ) (n : ℕ) → text ≡ front ++ rest → length front ≡ n → (take n text ≡ front) × (drop n text ≡ rest)
-apart text front rest n e f = rw (e, ← f) (take-append_seam front rest, drop-append_seam front rest)
+-- after i digits of the text
+module _ (text rest : List ℕ) (i v : ℕ) (so_far : digits i text ≡ took v rest) where
+  from_here : then_read (run text) filled ≡ then_read (run rest) (λ ds after. filled (padded i v ++ ds) after)
+  from_here = rw ((digits_only i text v rest so_far).0, run_padded i v rest) (joined (run rest))
+    where
+      joined : (p : Parsed (List ℕ)) → then_read (then_read p (λ ds after. took (padded i v ++ ds) after)) filled ≡
+          then_read p (λ ds after. filled (padded i v ++ ds) after)
+      joined nothing = refl
+      joined (took ds after) = refl
 
-pub all_filled : (text rest : List ℕ) (v : ℕ) → 0 < count text → count text ≤ 9 → v < 10 ^ count text → digits (count text) text ≡ took v rest →
-    then_read (run text) filled ≡ took (v * 10 ^ (9 - count text)) rest
-all_filled text rest v some few small read =
-    let split = digits_only (count text) text v rest read in
-    let cut = apart text (padded (count text) v) rest (count text) split.0 (padded_length (count text) v) in
-    rw (run_is text, cut.0, cut.1) (filled_is (count text) v rest some few small)
+  pub too_many : (d : ℕ) (after : List ℕ) → i ≡ 9 → digit rest ≡ took d after → then_read (run text) filled ≡ nothing
+  too_many d after e more =
+      let next = digit_only rest d after more in
+      from_here ∙ rw (next.0, run_goes (digit_zero + d) after (digit_is d next.1), e) (filled_many (run after) v (digit_zero + d))
+
+  -- what is made of the digits where no more follow
+  all_read : digit rest ≡ nothing → then_read (run text) filled ≡ filled (padded i v) rest
+  all_read none = from_here ∙ rw (run_ends rest none, append-nil (padded i v))
+
+  pub none_read : i ≡ 0 → digit rest ≡ nothing → then_read (run text) filled ≡ nothing
+  none_read e none = all_read none ∙ filled_none i v rest e
+
+  pub some_read : 0 < i → i ≤ 9 → v < 10 ^ i → digit rest ≡ nothing → then_read (run text) filled ≡ took (v * get_or places i 0) rest
+  some_read some few small none = all_read none ∙ rw (place_is i few) (filled_is i v rest some few small)
 
 -- ---- without the zeros at the end
 

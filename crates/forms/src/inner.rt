@@ -3,14 +3,26 @@
 //
 // A writer is handed a place with the slice, for the reason that `writing::inner` gives.
 ghost use Rattle.std.specs.Prelude.{◌≡◌, ◌∷◌, ◌+◌, ◌^◌, ◌≤◌, ◌<◌, length, IfSome};
-ghost use Rattle.std.specs.Char.{is_ascii_digit};
-ghost use Rattle.std.specs.List.{prefix_len};
 ghost use Rattle.writing.specs.Wrote.{Wrote};
 ghost use Rattle.forms.specs.Forms.{then_read, marked, digit, digits, padded, run, filled, fraction, pointed};
 ghost use Rattle.forms.specs.Pieces.{of_read, Trims};
 
 use crate::Trimmed;
 use writing::inner::put_byte;
+
+// How many billionths the last of n digits of a fraction counts: 10 to the power of the digits that are missing from nine.
+const PLACES: [u64; 10] = [
+    1_000_000_000,
+    100_000_000,
+    10_000_000,
+    1_000_000,
+    100_000,
+    10_000,
+    1_000,
+    100,
+    10,
+    1,
+];
 
 // n digits, as the number that they say. 64 bits hold any number of 18.
 #[tactic(auto, using(crate::proofs::Digits::no_digit, crate::proofs::Digits::next_digit, crate::proofs::Digits::grows), unfolding(crate::specs::Forms::digits))]
@@ -60,25 +72,27 @@ pub fn read_fraction(text: &[u8]) -> Option<(u64, &[u8])>
     billionths(text.strip_prefix(b".")?)
 }
 
-// All digits that stand there, as billionths, where there are one to nine.
-#[tactic(auto, using(crate::proofs::Fractions::no_fraction, crate::proofs::Fractions::all_stand, crate::proofs::Fractions::all_filled, crate::proofs::Fractions::filled_small))]
+// All digits that stand there, as billionths, where there are one to nine. A tenth ends the walk.
+#[tactic(auto, using(crate::proofs::Digits::next_digit, crate::proofs::Digits::grows, crate::proofs::Fractions::too_many, crate::proofs::Fractions::none_read, crate::proofs::Fractions::some_read, crate::proofs::Fractions::placed_small), unfolding(crate::specs::Forms::digits))]
 fn billionths(text: &[u8]) -> Option<(u64, &[u8])>
     ensures takes { of_read result ≡ then_read (run text.now) filled }
     ensures small { IfSome result (λ p. p.0 < 10 ^ 9) }
 {
-    let count = digit_count(text);
-    if count == 0 || 9 < count {
+    let mut value = 0;
+    let mut count = 0;
+    let mut rest = text;
+    while let Some((digit, after)) = read_digit(rest) {
+        if count == 9 {
+            return None;
+        }
+        value = 10 * value + digit;
+        count += 1;
+        rest = after;
+    }
+    if count == 0 {
         return None;
     }
-    let (value, rest) = read_digits(text, count)?;
-    Some((value * 10u64.pow(9 - count as u32), rest))
-}
-
-// How many digits a text begins with.
-fn digit_count(text: &[u8]) -> usize
-    ensures { result ≡ prefix_len is_ascii_digit text.now }
-{
-    text.iter().take_while(|b| b.is_ascii_digit()).count()
+    Some((value * PLACES[count], rest))
 }
 
 // Writes the last n digits of a number, from the last to the first.

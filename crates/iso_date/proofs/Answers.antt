@@ -2,8 +2,10 @@
 use Prim.Native.Nat.{ℕ, min, max, ◌+◌, ◌-◌, ◌/◌, ◌%◌, ◌^◌, ◌≤◌, ◌<◌}
 use native.Mathlib.Omega.{arith}
 use mathlib.Core.Path.{◌≡◌, refl, sym, ◌∙◌, ap}
-use mathlib.Core.Bool.{Bool, true, false, ◌&&◌}
+use mathlib.Core.Bool.{Bool, true, false, ◌&&◌, ◌||◌}
 use mathlib.Core.Logic.{⊎_elim}
+use borrow.Author.Tests.{ltb-false}
+use lib.Dec.{ltb}
 use lib.ListN.{get_or}
 use lib.IntN.{ℤ, pos, negsuc, neg_ℤ, nat_abs, ◌+ℤ◌, ◌-ℤ◌, ◌*ℤ◌}
 use lib.Signed.{lt_z, le_z, ◌≤ℤ◌, ◌<ℤ◌}
@@ -15,7 +17,7 @@ use Rattle.refusal.proofs.Answers.{given_inj, never}
 use Rattle.whole.specs.Whole.{◌⊖◌, fmod, clamp_z}
 use Rattle.whole.proofs.Edges.{clamp_low, clamp_high, clamp_same}
 use Rattle.whole.proofs.Laws.{split, whole, ints, ⊖-same, size_of, range_of, read_add, read_diff, read_times}
-use Rattle.whole.proofs.Tests.{alike, both, and_false}
+use Rattle.whole.proofs.Tests.{alike, both, neither, and_false}
 use Rattle.iso_date.specs.Proposal.{date, leap_year, month_lengths, iso_days_in_month, day_from_month, iso_date_to_epoch_days, epoch_days}
 use Rattle.iso_date.specs.Proposal.{epoch_days_to_iso_date, is_valid_iso_date, balanced_year, balanced_month, constrain_iso_date, clamp_to, ns_within_limits}
 use Rattle.iso_date.specs.Proposal.{moment_within_limits, iso_date_within_limits, noon, ns_limit}
@@ -120,6 +122,15 @@ noon_in n a b =
     let t = read_times ns_per_day n in
     let s = read_add (pos ns_per_day *ℤ n) (pos noon) in
     limits_in n noon (omega (arith, ints)) (omega (arith, ints))
+
+-- ---- valid fields
+
+a_month : (m : ℕ) → (ltb m 1 || ltb 12 m) ≡ false → (1 ≤ m) × (m ≤ 12)
+a_month m e = let g = neither (ltb m 1) (ltb 12 m) e in (ltb-false m 1 g.0, ltb-false 12 m g.1)
+
+module _ (y : ℤ) (m d : ℕ) where
+  pub in_year : ((ltb m 1 || ltb 12 m) || ltb d 1) ≡ false → (1 ≤ m) × (m ≤ 12)
+  in_year e = a_month m (neither (ltb m 1 || ltb 12 m) (ltb d 1) e).0
 
 -- ---- date to day, and day to date
 

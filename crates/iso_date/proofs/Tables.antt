@@ -1,7 +1,8 @@
 -- The two tables of the code hold what the list of the twelve lengths says, each shown once over its twelve places.
 use Prim.Native.Nat.{ℕ, ◌+◌, ◌*◌, ◌≤◌, ◌<◌}
 use native.Mathlib.Omega.{arith}
-use mathlib.Core.Path.{◌≡◌, refl, ◌∙◌, ap}
+use borrow.Author.Tests.{ne_eqb}
+use mathlib.Core.Path.{◌≡◌, refl, sym, ◌∙◌, ap}
 use mathlib.Core.Bool.{Bool, true, false, cond, ◌&&◌}
 use mathlib.Core.List.{List, [], ◌∷◌}
 use lib.Dec.{leb, eqb}
@@ -54,11 +55,25 @@ ends false = every_le (λ i. 31 * i) (λ i. days_before_month false i + get_or (
 
 -- ---- the two ways of the code through each table
 
+pub one_if : (a : Bool) → bool_byte a ≡ cond a 1 0
+one_if true = refl
+one_if false = refl
+
 one_if_both : (a b : Bool) → bool_byte (a && b) ≡ cond b (cond a 1 0) 0
 one_if_both true true = refl
 one_if_both true false = refl
 one_if_both false true = refl
 one_if_both false false = refl
+
+pub length_february : (leap : Bool) (x : ℕ) → x ≡ cond leap 1 0 → (28 + x ≡ get_or (month_lengths leap) 1 0) × (28 + x ≤ 31)
+unfolding month_lengths
+length_february true x e = omega arith
+length_february false x e = omega arith
+
+pub length_other : (leap : Bool) (i : ℕ) → i < 12 → (i ≡ 1 → ⊥) → (get_or length_table i 0 ≡ get_or (month_lengths leap) i 0) × (get_or length_table i 0 ≤ 31)
+length_other leap i h n =
+    let e : length_at leap i ≡ get_or length_table i 0 = simp (ne_eqb i 1 n) (omega arith) in
+    (sym e ∙ length_is leap i h, rw e at (length_below leap i h))
 
 pub length_sum : (leap : Bool) (i x : ℕ) → i < 12 → x ≡ bool_byte (leap && eqb i 1) →
     (get_or length_table i 0 + x ≡ get_or (month_lengths leap) i 0) × (get_or length_table i 0 + x ≤ 31)

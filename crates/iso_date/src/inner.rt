@@ -35,6 +35,8 @@ const FIRST_WITHIN: i64 = -100_000_001;
 
 const LAST_WITHIN: i64 = 100_000_000;
 
+// The lengths of the months of a common year. A table, which the users asked for.
+const MONTH_LENGTHS: [u8; 12] = [31, 28, 31, 30, 31, 30, 31, 31, 30, 31, 30, 31];
 // The days of a common year before each of its months. A table, as that of their lengths is.
 const DAYS_BEFORE: [u16; 12] = [0, 31, 59, 90, 120, 151, 181, 212, 243, 273, 304, 334];
 
@@ -44,6 +46,14 @@ pub fn year_up(year: i32) -> u64
     ensures { (year ≡ result ⊖ year_bias) × ((result < 2 ^ 31 + year_bias) × (year_bias ≤ result + 2 ^ 31)) }
 {
     raise(i64::from(year), YEAR_BIAS)
+}
+
+// A month of any number, counted from 1, as a natural.
+#[tactic(auto, using(whole::proofs::Edges::raises))]
+pub fn month_up(month: i32) -> u64
+    ensures { (month ≡ result ⊖ month_bias) × ((result < 2 ^ 31 + month_bias) × (month_bias ≤ result + 2 ^ 31)) }
+{
+    raise(i64::from(month), MONTH_BIAS)
 }
 
 // A year given back as 32 bits, clamped to them.
@@ -71,6 +81,18 @@ pub fn is_leap(u: u64) -> bool
     ensures { result ≡ leap_year (u ⊖ year_bias) }
 {
     (u % 4 == 0) & ((u % 100 != 0) | (u % 400 == 0))
+}
+
+// The length of month m, counted from 1. February alone asks what the year is, so that for no other month a year is divided.
+pub fn month_days(leap: bool, m: u8) -> u8
+    requires { (1 ≤ m) × (m ≤ 12) }
+    ensures { (result ≡ get_or (month_lengths leap) (m - 1) 0) × (result ≤ 31) }
+{
+    if m == 2 {
+        MONTH_LENGTHS[1] + u8::from(leap)
+    } else {
+        MONTH_LENGTHS[(m - 1) as usize]
+    }
 }
 
 // The days of a year before month i, counted from 0.
@@ -139,11 +161,10 @@ pub fn balance_up(u: u64, m: u64) -> UpMonth
 }
 
 // The month that a month of any number is.
-#[tactic(auto, using(whole::proofs::Edges::raises))]
 pub fn balance(year: i32, month: i32) -> UpMonth
     ensures { (result.year ⊖ year_bias ≡ balanced_year year month) × (result.index + 1 ≡ balanced_month month) }
 {
-    balance_up(year_up(year), raise(i64::from(month), MONTH_BIAS))
+    balance_up(year_up(year), month_up(month))
 }
 
 // The length of a month of a year.
@@ -151,7 +172,7 @@ pub fn days_in_month(year: i32, month: u8) -> u8
     requires { (1 ≤ month) × (month ≤ 12) }
     ensures { (result ≡ iso_days_in_month year month) × ((1 ≤ result) × (result ≤ 31)) }
 {
-    UpMonth::of(year, month).days()
+    month_days(is_leap(year_up(year)), month)
 }
 
 // Whether a day count is in the balanced range.

@@ -44,7 +44,7 @@ impl IsoDate {
         ensures { result ≡ is_valid_iso_date self }
     {
         (1..=12).contains(&self.month)
-            && (1..=inner::days_in_month(self.year, self.month)).contains(&self.day)
+            && (1..=inner::UpMonth::of(self.year, self.month).days()).contains(&self.day)
     }
 
     // The day number of a date; 1 where a field is not valid, 4 past the balanced range. The limits are not tested.

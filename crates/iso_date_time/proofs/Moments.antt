@@ -163,19 +163,31 @@ module _ (y m d h mi s ms us ns : ℤ) where
   abbrev day_on : BalancedTime → ℤ
   day_on b = iso_date_to_epoch_days y (m -ℤ pos 1) (d +ℤ b.days)
 
-  pub balance_bound : (n : ℕ) → refused n ≡ balance_time_fields h mi s ms us ns → refused n ≡ balance_date_time y m d h mi s ms us ns
+  pub balance_bound : (n : ℕ) → refused n ≡ balance_time_fields h mi s ms us ns → refused 7 ≡ balance_date_time y m d h mi s ms us ns
   unfolding balance_date_time balance_time_fields
-  balance_bound n e =
-      let f = check_refused (all_bounded h mi s ms us ns) 7 n (balance_time h mi s ms us ns) e in
-      ap refused (ap number_of (rw f at e)) ∙ rw f
+  balance_bound n e = let f = check_refused (all_bounded h mi s ms us ns) 7 n (balance_time h mi s ms us ns) e in rw f
 
   pub balance_count : (b : BalancedTime) (n : ℕ) → given b ≡ balance_time_fields h mi s ms us ns → refused n ≡ balance_date y m (d +ℤ b.days) →
-      refused n ≡ balance_date_time y m d h mi s ms us ns
+      refused 4 ≡ balance_date_time y m d h mi s ms us ns
   unfolding balance_date_time balance_time_fields balance_date day_to_date
   balance_count b n e f =
       let g = check_given (all_bounded h mi s ms us ns) 7 (balance_time h mi s ms us ns) b e in
       let k = check_refused (balanced (day_on b)) 4 n (epoch_days_to_iso_date (day_on b)) f in
-      ap refused (ap number_of (rw k at f)) ∙ rw (g.0, rw g.1 at k)
+      rw (g.0, rw g.1 at k)
+
+  -- so the number by which a step refuses can be handed on
+  pub bound_handed_on : (n : ℕ) → refused n ≡ balance_time_fields h mi s ms us ns → refused n ≡ balance_date_time y m d h mi s ms us ns
+  unfolding balance_time_fields
+  bound_handed_on n e =
+      let f = check_refused (all_bounded h mi s ms us ns) 7 n (balance_time h mi s ms us ns) e in
+      ap refused (ap number_of (rw f at e)) ∙ balance_bound n e
+
+  pub count_handed_on : (b : BalancedTime) (n : ℕ) → given b ≡ balance_time_fields h mi s ms us ns → refused n ≡ balance_date y m (d +ℤ b.days) →
+      refused n ≡ balance_date_time y m d h mi s ms us ns
+  unfolding balance_date day_to_date
+  count_handed_on b n e f =
+      let k = check_refused (balanced (day_on b)) 4 n (epoch_days_to_iso_date (day_on b)) f in
+      ap refused (ap number_of (rw k at f)) ∙ balance_count b n e f
 
   pub balance_is : (b : BalancedTime) (c : IsoDate) → given b ≡ balance_time_fields h mi s ms us ns → given c ≡ balance_date y m (d +ℤ b.days) →
       given (date_time c b.time) ≡ balance_date_time y m d h mi s ms us ns
@@ -195,4 +207,4 @@ module _ (y m d h mi s ms us ns : ℤ) where
       let g = check_passed (balanced (day_on b)) 4 _ r f.1 in
       rw (← given_inj _ r g.1) (back_valid (day_on b), balance_is_valid h mi s ms us ns)
 
-pub ruleset balance_ways = (balance_bound, balance_count, balance_is, carry_small)
+pub ruleset balance_ways = (bound_handed_on, count_handed_on, balance_is, carry_small)

@@ -58,10 +58,14 @@ unfolding day_to_date
 day_valid d n e =
     rw (check_given (balanced n) 4 (epoch_days_to_iso_date n) d e).1 (back_valid n)
 
--- no weeks: the record's date and the days as the code has them
-pub days_alone : (one two : IsoDateTime) (x : Answer IsoDate) (d z : ℤ) → one ≡ two → z ≡ d →
+-- no weeks
+pub days_alone : (a d : ℤ) → a +ℤ (d +ℤ pos 7 *ℤ pos 0) ≡ a +ℤ d
+days_alone a d = ap (λ (z : ℤ). a +ℤ z) (+ℤ_idr d)
+
+-- the record's date and the days as the code has them
+pub days_joined : (one two : IsoDateTime) (x : Answer IsoDate) (d z : ℤ) → one ≡ two → z ≡ d →
     x ≡ day_to_date (epoch_days one.date +ℤ (z +ℤ pos 7 *ℤ pos 0)) → x ≡ day_to_date (epoch_days two.date +ℤ d)
-days_alone one two x d z e f h = h ∙ rw (e, f) (ap (λ (n : ℤ). day_to_date (epoch_days two.date +ℤ n)) (+ℤ_idr d))
+days_joined one two x d z e f h = h ∙ rw (e, f) (ap day_to_date (days_alone (epoch_days two.date) d))
 
 -- ---- the ways
 

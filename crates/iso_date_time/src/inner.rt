@@ -53,6 +53,20 @@ pub fn is_within_limits(date: ValidDate, time: ValidTime) -> bool
         & ((-MOST_INSTANT_DAYS <= day) | (0 < ns))
 }
 
+// A record held to the limits (3).
+pub fn limited(date: ValidDate, time: ValidTime) -> Result<IsoDateTime, Refusal>
+    ensures { answer_of result ≡ check (iso_date_time_within_limits (date_time date.date time.time)) 3 (given (date_time date.date time.time)) }
+{
+    if is_within_limits(date, time) {
+        Ok(IsoDateTime {
+            date: date.date,
+            time: time.time,
+        })
+    } else {
+        Err(Refusal::DateTimeLimits)
+    }
+}
+
 // The days that a time of the day has to borrow to reach another, 1 or none, and the nanoseconds that it then takes.
 fn time_until(a: u64, b: u64) -> (u64, u64)
     requires { (a < ns_per_day) × (b < ns_per_day) }
@@ -134,7 +148,7 @@ pub fn difference(one: ValidDateTime, two: ValidDateTime, unit: Unit) -> DateTim
         two.date.day_up(),
         two.time.nanoseconds(),
     );
-    if unit > Unit::Day {
+    if unit.rank() > Unit::Day.rank() {
         let time = moved.in_seconds(from.abs_diff(moved.day));
         return DateTimeDifference {
             duration: InternalDurationRecord {

@@ -12,6 +12,7 @@ ghost use Rattle.iso_date_time.specs.Paper.{date_time_limits, balance_date_time,
 use date_duration::DateDuration;
 use inner::ValidDateTime;
 use iso_date::IsoDate;
+use iso_date::inner::ValidDate;
 use iso_time::inner::ValidTime;
 use iso_time::{IsoTime, TimeDuration};
 use options::Unit;
@@ -41,6 +42,7 @@ pub struct DateTimeDifference {
 
 impl IsoDateTime {
     // The record as one that may stand: the fields of its date, then of its time (1), then the limits (3).
+    #[inline(always)]
     #[tactic(auto, using(crate::proofs::Moments::limits_ways))]
     pub fn within_limits(self) -> Result<ValidDateTime, Refusal>
         ensures { MatchResult result (λ v. (date_time v.date.date v.time.time ≡ self) × (given tt ≡ date_time_limits self))
@@ -112,12 +114,10 @@ impl IsoDateTime {
         let rounded = self.time.round(unit, increment, mode)?;
         // A day more than one within the limits is in the balanced range: this never refuses.
         let date = record.date.add_days(0, rounded.days)?;
-        let moved = IsoDateTime {
-            date,
-            time: rounded.time,
-        };
-        moved.check_within_limits()?;
-        Ok(moved)
+        // A date of a day number and a rounded time have valid fields: they are not tested again.
+        let date = ValidDate { date };
+        let time = ValidTime { time: rounded.time };
+        inner::limited(date, time)
     }
 
     // From one record to another, under any unit, and how many candidates were tried: each record (1, 3), then the years to days as far

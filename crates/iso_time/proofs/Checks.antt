@@ -6,7 +6,8 @@ use mathlib.Core.Bool.{Bool, true, false, cond, ◌&&◌}
 use mathlib.Core.List.{[], ◌∷◌}
 use borrow.Author.Tests.{leb-true, ltb-true, eqb-true, eqb-false, lt-ltb, le-ltb}
 use lib.Dec.{leb, ltb, eqb, lit≤, leb-suc-zero}
-use lib.IntN.{ℤ, pos, neg_ℤ, nat_abs, ◌-ℤ◌}
+use lib.IntN.{ℤ, pos, negsuc, neg_ℤ, ◌-ℤ◌}
+use lib.Signed.{quot_z, rem_z, mag_rem}
 use mir.Facts.{to_z_pos}
 use mir.Syntax.{w64}
 use mir.Val.{SFits, to_z}
@@ -22,8 +23,8 @@ use Rattle.refusal.proofs.Answers.{given_inj, never}
 use Rattle.rounding.specs.declared.RoundingMode.{RoundingMode}
 use Rattle.iso_time.specs.Proposal.{in_seconds, unit_length, validate_temporal_rounding_increment, valid_increment, is_valid_time}
 use Rattle.iso_time.specs.Proposal.{balance_time, nanoseconds_until, difference_time, round_time}
-use Rattle.iso_time.specs.Paper.{all_bounded, balance_time_fields, is_rounding_unit, time_difference, rounded_time}
-use Rattle.iso_time.specs.Inner.{AllWithin, dividend, checked_time, scale_of, allowed}
+use Rattle.iso_time.specs.Paper.{bounded, all_bounded, balance_time_fields, is_rounding_unit, time_difference, rounded_time}
+use Rattle.iso_time.specs.Inner.{AllWithin, dividend, checked_time, row_of, scale_of, allowed}
 use Rattle.iso_time.specs.declared.IsoTime.{IsoTime}
 use Rattle.iso_time.specs.declared.inner.Scale.{Scale}
 use Rattle.iso_time.specs.declared.TimeDuration.{TimeDuration}
@@ -41,15 +42,12 @@ all_within h m s ms us ns e =
     (leb-true _ _ a.0, (leb-true _ _ b.0, (leb-true _ _ c.0, (leb-true _ _ d.0, (leb-true _ _ f.0, leb-true _ _ f.1)))))
 
 -- the code's test of all six
-abbrev pub most_field : ℕ
-most_field = 9_007_199_254_740_991
-
 and_true : (a : Bool) → (a && true) ≡ a
 and_true true = refl
 and_true false = refl
 
 module _ (h m s ms us ns : ℤ) where
-  pub fields_are : list_all (λ z. leb (nat_abs z) most_field) (h ∷ m ∷ s ∷ ms ∷ us ∷ ns ∷ []) ≡ all_bounded h m s ms us ns
+  pub fields_are : list_all bounded (h ∷ m ∷ s ∷ ms ∷ us ∷ ns ∷ []) ≡ all_bounded h m s ms us ns
   unfolding all_bounded
   fields_are = simp and_true
 
@@ -94,6 +92,15 @@ pub record Scaled (u : TemporalUnit) (s : Scale) : Type 0 where
   pub length_is : s.length ≡ unit_length u
   pub dividend_is : s.dividend ≡ dividend u
 
+pub row_scaled : (u : TemporalUnit) (s : Scale) → s ≡ row_of u → 0 < unit_length u → Scaled u s
+row_scaled u s e some =
+    record {
+      usable = (row u).by_length ∙ lt-ltb 0 (unit_length u) some;
+      some = some;
+      length_is = ap (λ (x : Scale). x.length) e;
+      dividend_is = ap (λ (x : Scale). x.dividend) e;
+    }
+
 no_scale_by : (u : TemporalUnit) (s : Scale) (t : Bool) → eqb (unit_length u) 0 ≡ t → cond t None (Some s) ≡ None → is_rounding_unit u ≡ false
 no_scale_by u s true t e = (row u).by_length ∙ le-ltb 0 (unit_length u) (omega (arith, eqb-true (unit_length u) 0 t))
 no_scale_by u s false t e = let f : ⊥ = cc in absurd f
@@ -102,18 +109,11 @@ pub no_scale : (u : TemporalUnit) → scale_of u ≡ None → is_rounding_unit u
 unfolding scale_of
 no_scale u e = no_scale_by u _ (eqb (unit_length u) 0) refl e
 
-scaled_by : (u : TemporalUnit) (s : Scale) (t : Bool) → eqb (unit_length u) 0 ≡ t →
-    Some s ≡ cond t None (Some (record { length = unit_length u; dividend = dividend u })) → Scaled u s
+scaled_by : (u : TemporalUnit) (s : Scale) (t : Bool) → eqb (unit_length u) 0 ≡ t → Some s ≡ cond t None (Some (row_of u)) → Scaled u s
 scaled_by u s true t e = let f : ⊥ = cc in absurd f
 scaled_by u s false t e =
-    let g : s ≡ record { length = unit_length u; dividend = dividend u } = cc in
-    let f : 0 < unit_length u = omega (arith, eqb-false (unit_length u) 0 t) in
-    record {
-      usable = (row u).by_length ∙ lt-ltb 0 (unit_length u) f;
-      some = f;
-      length_is = ap (λ (x : Scale). x.length) g;
-      dividend_is = ap (λ (x : Scale). x.dividend) g;
-    }
+    let g : s ≡ row_of u = cc in
+    row_scaled u s g (omega (arith, eqb-false (unit_length u) 0 t))
 
 pub scaled : (u : TemporalUnit) (s : Scale) → Some s ≡ scale_of u → Scaled u s
 unfolding scale_of
@@ -205,6 +205,16 @@ pub ruleset round_laws = (round_first, round_unit, round_increment)
 
 abbrev pub duration : ℤ → ℤ → TimeDuration
 duration s n = record { seconds = s; nanoseconds = n }
+
+-- whole seconds and nanoseconds are no larger than what was cut
+pub seconds_fit : (z : ℤ) → SFits w64 z → SFits w64 (quot_z z (pos 1000000000))
+seconds_fit (pos n) f = record { sfits = omega (arith, f.sfits) }
+seconds_fit (negsuc n) f =
+    let q : ℤ = neg_ℤ (pos (suc n / 1000000000)) in
+    record { sfits = omega (arith, f.sfits, read_neg (pos (suc n / 1000000000)), range_of q) }
+
+pub nanoseconds_fit : (z : ℤ) → SFits w64 z → SFits w64 (rem_z z (pos 1000000000))
+nanoseconds_fit z f = record { sfits = omega (arith, f.sfits, mag_rem z (pos 1000000000)) }
 
 -- two nanoseconds of the day as signed numbers
 module _ (one two : ℕ) (h : one < ns_per_day) (k : two < ns_per_day) where

@@ -1,21 +1,18 @@
 -- Times as one number: fields and nanoseconds, and the balance of six fields.
-use Prim.Native.Nat.{ℕ, ◌+◌, ◌*◌, ◌/◌, ◌%◌, ◌^◌, ◌≤◌, ◌<◌}
-use native.Mathlib.Nat.{div-le_self}
+use Prim.Native.Nat.{ℕ, ◌+◌, ◌*◌, ◌/◌, ◌%◌, ◌≤◌, ◌<◌}
+use native.Mathlib.Nat.{mod-lt, div-add-mod}
 use native.Mathlib.Omega.{arith}
 use mathlib.Core.Path.{◌≡◌, refl, sym, ◌∙◌, ap, ap₂}
-use mathlib.Core.Bool.{true}
+use mathlib.Core.Bool.{true, ◌&&◌}
 use borrow.Author.Tests.{leb-true, le-leb}
-use lib.IntN.{ℤ, pos, negsuc, neg_ℤ, nat_abs, ◌+ℤ◌, ◌-ℤ◌, ◌*ℤ◌}
-use Rattle.std.specs.Int.{int_div_euclid, int_rem_euclid}
+use lib.Dec.{leb}
+use lib.IntN.{ℤ, pos, neg_ℤ, ◌+ℤ◌, ◌-ℤ◌, ◌*ℤ◌}
 use Rattle.options.specs.Units.{ns_per_day}
-use Rattle.whole.specs.Whole.{fdiv, fmod}
-use mir.Facts.{to_z-of_z}
-use mir.Syntax.{w64}
-use mir.Val.{SFits, to_z, of_z}
-use Rattle.whole.proofs.Laws.{size_of, range_of, parts, whole, ints, fdiv_fmod, fdiv_unique, fmod_lt, quotient, read_add, read_neg}
-use Rattle.whole.proofs.Tests.{both}
+use Rattle.whole.specs.Whole.{◌⊖◌, fdiv, fmod}
+use Rattle.whole.proofs.Laws.{parts, whole, ints, ⊖-sum, fdiv_fmod, fdiv_unique, fmod_lt, quotient, of_pos, read_add, read_neg}
+use Rattle.whole.proofs.Tests.{both, and_assoc}
 use Rattle.iso_time.specs.Proposal.{time, is_valid_time, balanced, balance_time, nanoseconds}
-use Rattle.iso_time.specs.Inner.{Within}
+use Rattle.iso_time.specs.Inner.{field_bias}
 use Rattle.iso_time.specs.Claims.{exact, flat}
 use Rattle.iso_time.specs.declared.IsoTime.{IsoTime}
 use Rattle.iso_time.specs.declared.BalancedTime.{BalancedTime}
@@ -29,6 +26,12 @@ pub record Valid (t : IsoTime) : Type 0 where
   pub millis : t.millisecond ≤ 999
   pub micros : t.microsecond ≤ 999
   pub nanos : t.nanosecond ≤ 999
+
+pub time_tests : (t : IsoTime) →
+    (((((leb t.hour 23 && leb t.minute 59) && leb t.second 59) && leb t.millisecond 999) && leb t.microsecond 999) &&
+    leb t.nanosecond 999) ≡ is_valid_time t
+unfolding is_valid_time
+time_tests t = simp and_assoc
 
 pub read_valid : (t : IsoTime) → is_valid_time t ≡ true → Valid t
 unfolding is_valid_time
@@ -75,6 +78,10 @@ time_at_is n h = (
       (record { hours = omega arith; minutes = omega arith; seconds = omega arith; millis = omega arith; micros = omega arith; nanos = omega arith }),
 )
 
+-- two times with equal fields
+pub time_eq : (a b c d e f a' b' c' d' e' f' : ℕ) → a ≡ a' → b ≡ b' → c ≡ c' → d ≡ d' → e ≡ e' → f ≡ f' → time a b c d e f ≡ time a' b' c' d' e' f'
+time_eq a b c d e f a' b' c' d' e' f' p q r s t u = rw (p, q, r, s, t, u)
+
 -- a valid time is the one at its nanoseconds
 pub time_back : (t : IsoTime) → Valid t → time_at (nanoseconds t) ≡ t
 unfolding nanoseconds
@@ -89,70 +96,40 @@ time_back t v =
     let q5 = quotient 60 (t.hour * 60 + t.minute) t.hour t.minute (omega arith) (omega arith) in
     rw (q1.0, q1.1, q2.0, q2.1, q3.0, q3.1, q4.0, q4.1, q5.0, q5.1)
 
--- ---- the balance of six fields
+-- ---- the balance of six fields, each raised by the same natural
 
--- the library's quotient and remainder are the definition's
-quotient_is : (z : ℤ) (d : ℕ) → int_div_euclid z (pos d) ≡ fdiv z d
-unfolding fdiv
-quotient_is (pos n) d = refl
-quotient_is (negsuc n) d = refl
+-- a number raised by a multiple of d
+stage : (z : ℤ) (n k d : ℕ) → 0 < d → z ≡ n ⊖ (d * k) → (fdiv z d ≡ (n / d) ⊖ k) × (fmod z d ≡ n % d)
+stage z n k d p e =
+    fdiv_unique z ((n / d) ⊖ k) d (n % d) (mod-lt n p)
+    (e ∙ sym (rw (of_pos d, of_pos (n % d)) (simp whole (omega (arith, div-add-mod n d)))))
 
-left_is : (z : ℤ) (d : ℕ) → int_rem_euclid z (pos d) ≡ pos (fmod z d)
-unfolding fmod
-left_is (pos n) d = refl
-left_is (negsuc n) d = ap pos (omega arith)
-
-quotient_low : (z : ℤ) (d : ℕ) → 0 < d → nat_abs (fdiv z d) ≤ nat_abs z
-unfolding fdiv
-quotient_low (pos n) d h = div-le_self n d
-quotient_low (negsuc n) d h = omega (arith, div-le_self n d)
-
-small_fits : (z : ℤ) → nat_abs z ≤ 2 ^ 60 → SFits w64 z
-small_fits z h = omega (arith, h, size_of z, range_of z)
-
--- a field with what is carried into it, as locals hand both back
-abbrev pub back : ℤ → ℤ → ℤ
-back x q = to_z w64 (of_z w64 x) +ℤ to_z w64 (of_z w64 q)
-
--- what is carried is the quotient of the sum below
-pub record Sum (x z q : ℤ) (d k : ℕ) : Type 0 where
-  pub sum_is : back x q ≡ x +ℤ fdiv z d
-  pub low : nat_abs (back x q) ≤ k + 2 ^ 53
-  pub fits : SFits w64 (back x q)
-
-pub sum : (x z q : ℤ) (d k : ℕ) → Within x → nat_abs z ≤ k → k ≤ 2 ^ 56 → 0 < d → q ≡ int_div_euclid (to_z w64 (of_z w64 z)) (pos d) → Sum x z q d k
-sum x z q d k w low most some e =
-    let f : SFits w64 x = small_fits x (omega arith) in
-    let g : SFits w64 z = small_fits z (omega arith) in
-    let i : q ≡ fdiv z d = (rw (to_z-of_z g) at e) ∙ quotient_is z d in
-    let l : nat_abs (fdiv z d) ≤ nat_abs z = quotient_low z d some in
-    let j : SFits w64 (fdiv z d) = small_fits (fdiv z d) (omega arith) in
-    let n : nat_abs (x +ℤ fdiv z d) ≤ k + 2 ^ 53 =
-    omega (arith, w, low, l, size_of x, size_of (fdiv z d), size_of (x +ℤ fdiv z d), range_of (x +ℤ fdiv z d), read_add x (fdiv z d)) in
-    let same : back x q ≡ x +ℤ fdiv z d = rw (i, to_z-of_z f, to_z-of_z j) in
-    record { sum_is = same; low = rw same n; fits = rw same (small_fits (x +ℤ fdiv z d) (omega arith)) }
-
--- what a sum makes of days
-pub days_are : (z q : ℤ) (d : ℕ) → nat_abs z ≤ 2 ^ 60 → 0 < d → q ≡ int_div_euclid (to_z w64 (of_z w64 z)) (pos d) → to_z w64 (of_z w64 q) ≡ fdiv z d
-days_are z q d low some e =
-    let i : q ≡ fdiv z d = (rw (to_z-of_z (small_fits z low)) at e) ∙ quotient_is z d in
-    let g : SFits w64 (fdiv z d) = small_fits (fdiv z d) (omega (arith, quotient_low z d some, low)) in
-    rw (i, to_z-of_z g)
-
--- what a sum leaves in its field
-pub field_is : (z r : ℤ) (d : ℕ) → SFits w64 z → 0 < d → d ≤ 1000 → r ≡ int_rem_euclid (to_z w64 (of_z w64 z)) (pos d) →
-    nat_abs (to_z w64 (of_z w64 r)) ≡ fmod z d
-field_is z r d f some most e =
-    let i : r ≡ pos (fmod z d) = (rw (to_z-of_z f) at e) ∙ left_is z d in
-    let g : SFits w64 (pos (fmod z d)) = small_fits (pos (fmod z d)) (omega (arith, fmod_lt z d some)) in
-    rw (i, to_z-of_z g)
-
-module _ (h m s ms us ns s1 s2 s3 s4 s5 : ℤ) (e1 : s1 ≡ us +ℤ fdiv ns 1000) (e2 : s2 ≡ ms +ℤ fdiv s1 1000) (e3 : s3 ≡ s +ℤ fdiv s2 1000)
-    (e4 : s4 ≡ m +ℤ fdiv s3 60) (e5 : s5 ≡ h +ℤ fdiv s4 60) where
-  pub balance_is : (days : ℤ) (a b c d e f : ℕ) → days ≡ fdiv s5 24 → a ≡ fmod s5 24 → b ≡ fmod s4 60 → c ≡ fmod s3 60 → d ≡ fmod s2 1000 →
-      e ≡ fmod s1 1000 → f ≡ fmod ns 1000 → balanced days (time a b c d e f) ≡ balance_time h m s ms us ns
+module _ (h m s ms us ns : ℤ) (n0 a1 a2 a3 a4 a5 : ℕ)
+    (e0 : ns ≡ n0 ⊖ field_bias) (e1 : us ≡ a1 ⊖ field_bias) (e2 : ms ≡ a2 ⊖ field_bias) (e3 : s ≡ a3 ⊖ field_bias)
+    (e4 : m ≡ a4 ⊖ field_bias) (e5 : h ≡ a5 ⊖ field_bias) where
+  pub balance_is : (days : ℤ) → days ≡ ((a5 + (a4 + (a3 + (a2 + (a1 + n0 / 1000) / 1000) / 1000) / 60) / 60) / 24) ⊖ 457625125125125 →
+      balanced days
+      (time ((a5 + (a4 + (a3 + (a2 + (a1 + n0 / 1000) / 1000) / 1000) / 60) / 60) % 24) ((a4 + (a3 + (a2 + (a1 + n0 / 1000) / 1000) / 1000) / 60) % 60)
+      ((a3 + (a2 + (a1 + n0 / 1000) / 1000) / 1000) % 60) ((a2 + (a1 + n0 / 1000) / 1000) % 1000) ((a1 + n0 / 1000) % 1000) (n0 % 1000)) ≡
+      balance_time h m s ms us ns
   unfolding balance_time
-  balance_is days a b c d e f p q r t u v w = rw (p, q, r, t, u, v, w, e5, e4, e3, e2, e1)
+  balance_is days e =
+      let n1 : ℕ = a1 + n0 / 1000 in
+      let n2 : ℕ = a2 + n1 / 1000 in
+      let n3 : ℕ = a3 + n2 / 1000 in
+      let n4 : ℕ = a4 + n3 / 60 in
+      let n5 : ℕ = a5 + n4 / 60 in
+      let s0 = stage ns n0 10800000000000 1000 (omega arith) e0 in
+      let s1 = stage (us +ℤ fdiv ns 1000) n1 10810800000000 1000 (omega arith) (⊖-sum us (fdiv ns 1000) a1 field_bias (n0 / 1000) 10800000000000 e1 s0.0) in
+      let us' : ℤ = us +ℤ fdiv ns 1000 in
+      let s2 = stage (ms +ℤ fdiv us' 1000) n2 10810810800000 1000 (omega arith) (⊖-sum ms (fdiv us' 1000) a2 field_bias (n1 / 1000) 10810800000000 e2 s1.0) in
+      let ms' : ℤ = ms +ℤ fdiv us' 1000 in
+      let s3 = stage (s +ℤ fdiv ms' 1000) n3 180180180180000 60 (omega arith) (⊖-sum s (fdiv ms' 1000) a3 field_bias (n2 / 1000) 10810810800000 e3 s2.0) in
+      let s' : ℤ = s +ℤ fdiv ms' 1000 in
+      let s4 = stage (m +ℤ fdiv s' 60) n4 183003003003000 60 (omega arith) (⊖-sum m (fdiv s' 60) a4 field_bias (n3 / 60) 180180180180000 e4 s3.0) in
+      let m' : ℤ = m +ℤ fdiv s' 60 in
+      let s5 = stage (h +ℤ fdiv m' 60) n5 457625125125125 24 (omega arith) (⊖-sum h (fdiv m' 60) a5 field_bias (n4 / 60) 183003003003000 e5 s4.0) in
+      ap₂ balanced (e ∙ sym s5.0) (time_eq _ _ _ _ _ _ _ _ _ _ _ _ (sym s5.1) (sym s4.1) (sym s3.1) (sym s2.1) (sym s1.1) (sym s0.1))
 
 -- ---- balancing is inverse to flattening: the exact nanoseconds stay as they are, and no other carry and time have them
 

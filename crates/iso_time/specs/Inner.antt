@@ -13,6 +13,10 @@ use Rattle.iso_time.specs.declared.BalancedTime.{BalancedTime}
 unfoldable pub checked_time : IsoTime → Answer IsoTime
 checked_time t = check (is_valid_time t) 1 (given t)
 
+-- what a field to be balanced is raised by: more than its bound, and divided by every divisor on the way up
+abbrev pub field_bias : ℕ
+field_bias = 10_800_000_000_000_000
+
 -- a field to be balanced is within its bound, and so are all six
 abbrev pub Within : ℤ → Type 0
 Within z = nat_abs z ≤ 9_007_199_254_740_991
@@ -38,9 +42,12 @@ dividend U.Millisecond = 1000
 dividend U.Microsecond = 1000
 dividend U.Nanosecond = 1000
 
--- a unit's length and dividend, for those that a time is rounded to
+-- a unit's length and dividend, and the same for those alone that a time is rounded to
+abbrev pub row_of : TemporalUnit → Scale
+row_of unit = record { length = unit_length unit; dividend = dividend unit }
+
 unfoldable pub scale_of : TemporalUnit → Option Scale
-scale_of unit = cond (eqb (unit_length unit) 0) None (Some (record { length = unit_length unit; dividend = dividend unit }))
+scale_of unit = cond (eqb (unit_length unit) 0) None (Some (row_of unit))
 
 -- the increments that are allowed at a unit of such a scale: at day 1 alone
 unfoldable pub allowed : Scale → ℕ → Bool

@@ -1,18 +1,37 @@
-// Times as one number, the nanoseconds since midnight, and the units that times are rounded to.
-ghost use Rattle.std.specs.Prelude.{◌≡◌, true, ◌<◌, pos, ◌-ℤ◌};
+// Times as one number, the nanoseconds since midnight, fields raised to naturals, and the units that times are rounded to.
+ghost use Rattle.std.specs.Prelude.{◌≡◌, true, ◌≤◌, ◌<◌, pos, ◌-ℤ◌};
 ghost use Rattle.std.specs.Result.{result_map_both};
+ghost use Rattle.whole.specs.Whole.{◌⊖◌};
 ghost use Rattle.refusal.specs.Refusals.{answer_of};
 ghost use Rattle.options.specs.Units.{ns_per_day};
-ghost use Rattle.iso_time.specs.Proposal.{is_valid_time, nanoseconds, in_seconds};
-ghost use Rattle.iso_time.specs.Inner.{checked_time, Carried, scale_of, allowed};
+ghost use Rattle.iso_time.specs.Proposal.{is_valid_time, balance_time, nanoseconds, unit_length};
+ghost use Rattle.iso_time.specs.Proposal.{valid_increment, round_time, in_seconds};
+ghost use Rattle.iso_time.specs.Inner.{Within, AllWithin, field_bias, checked_time, Carried, row_of, scale_of, allowed};
 
 use crate::{BalancedTime, IsoTime, TimeDuration};
 use options::Unit;
 use refusal::Refusal;
+use rounding::RoundingMode;
+
+// What a field to be balanced is raised by: more than its bound of 2^53 - 1, and such that whatever is divided on the way up is raised by
+// a multiple of the divisor. With B for it the quotients are raised by B / 1000 = 10_800_000_000_000,
+// (B + 10_800_000_000_000) / 1000 = 10_810_800_000_000, (B + 10_810_800_000_000) / 1000 = 10_810_810_800_000,
+// (B + 10_810_810_800_000) / 60 = 180_180_180_180_000 and (B + 180_180_180_180_000) / 60 = 183_003_003_003_000.
+const FIELD_BIAS: u64 = 10_800_000_000_000_000;
+// What the days are raised by at last: (B + 183_003_003_003_000) / 24.
+const DAYS_BIAS: u64 = 457_625_125_125_125;
 
 const NS_PER_DAY: u64 = 86_400_000_000_000;
 
 const NS_PER_SECOND: i64 = 1_000_000_000;
+
+// A field to be balanced, as a natural: one that is raised is divided with no test of its sign.
+fn field_up(x: i64) -> u64
+    requires { Within x }
+    ensures { (x ≡ result ⊖ field_bias) × (result < 20000000000000000) }
+{
+    whole::inner::raise(x, FIELD_BIAS)
+}
 
 // A time whose fields are within their ranges.
 #[derive(Clone, Copy)]
@@ -70,6 +89,37 @@ impl ValidTime {
     }
 }
 
+// Six fields balanced into days and a time: what is too much in a field is carried into the next, rounded down.
+pub fn balance(
+    hour: i64,
+    minute: i64,
+    second: i64,
+    millisecond: i64,
+    microsecond: i64,
+    nanosecond: i64,
+) -> BalancedTime
+    requires { AllWithin hour minute second millisecond microsecond nanosecond }
+    ensures { result ≡ balance_time hour minute second millisecond microsecond nanosecond }
+{
+    let nanos = field_up(nanosecond);
+    let micros = field_up(microsecond) + nanos / 1000;
+    let millis = field_up(millisecond) + micros / 1000;
+    let secs = field_up(second) + millis / 1000;
+    let mins = field_up(minute) + secs / 60;
+    let hours = field_up(hour) + mins / 60;
+    BalancedTime {
+        days: whole::inner::lower(hours / 24, DAYS_BIAS),
+        time: IsoTime {
+            hour: (hours % 24) as u8,
+            minute: (mins % 60) as u8,
+            second: (secs % 60) as u8,
+            millisecond: (millis % 1000) as u16,
+            microsecond: (micros % 1000) as u16,
+            nanosecond: (nanos % 1000) as u16,
+        },
+    }
+}
+
 // A unit that a time is rounded to: its length in nanoseconds, and how many of it make the next, 1 for day, which has no next.
 #[derive(Clone, Copy, Debug, PartialEq, Eq)]
 pub struct Scale {
@@ -77,13 +127,13 @@ pub struct Scale {
     pub dividend: u64,
 }
 
-// What a unit's scale is; none for those that a time is not rounded to.
-#[tactic(auto, unfolding(crate::specs::Inner::scale_of, crate::specs::Inner::dividend, crate::specs::Proposal::unit_length))]
-pub fn scale_of(unit: Unit) -> Option<Scale>
-    ensures { result ≡ scale_of unit }
+// What a unit's scale is; both numbers are 0 for those that a time is not rounded to.
+#[tactic(auto, unfolding(crate::specs::Inner::dividend, crate::specs::Proposal::unit_length))]
+fn row_of(unit: Unit) -> Scale
+    ensures { result ≡ row_of unit }
 {
     let (length, dividend) = match unit {
-        Unit::Year | Unit::Month | Unit::Week => return None,
+        Unit::Year | Unit::Month | Unit::Week => (0, 0),
         Unit::Day => (NS_PER_DAY, 1),
         Unit::Hour => (3_600_000_000_000, 24),
         Unit::Minute => (60_000_000_000, 60),
@@ -92,7 +142,31 @@ pub fn scale_of(unit: Unit) -> Option<Scale>
         Unit::Microsecond => (1000, 1000),
         Unit::Nanosecond => (1, 1000),
     };
-    Some(Scale { length, dividend })
+    Scale { length, dividend }
+}
+
+// The same; none for those that a time is not rounded to.
+#[tactic(auto, unfolding(crate::specs::Inner::scale_of))]
+pub fn scale_of(unit: Unit) -> Option<Scale>
+    ensures { result ≡ scale_of unit }
+{
+    let scale = row_of(unit);
+    if scale.length == 0 { None } else { Some(scale) }
+}
+
+// The length of a unit in nanoseconds; 0 for those that a time is not rounded to.
+pub fn length_of(unit: Unit) -> u64
+    ensures { result ≡ unit_length unit }
+{
+    row_of(unit).length
+}
+
+// Whether an increment is allowed at a unit: none is at those that a time is not rounded to.
+#[tactic(auto, using(crate::proofs::Checks::allowed_is))]
+pub fn is_increment(unit: Unit, increment: u64) -> bool
+    ensures { result ≡ valid_increment unit increment }
+{
+    row_of(unit).allows(increment)
 }
 
 impl Scale {
@@ -108,8 +182,23 @@ impl Scale {
     }
 }
 
+// A time rounded at a unit, with the day that may be carried. The larger fields stay: what the next larger unit leaves is taken out of the
+// time, rounded, and put back.
+pub fn round(t: IsoTime, unit: Unit, increment: u64, mode: RoundingMode) -> BalancedTime
+    requires { (is_valid_time t ≡ true) × ((0 < unit_length unit) × (valid_increment unit increment ≡ true)) }
+    ensures { result ≡ round_time t increment unit mode }
+{
+    let scale = row_of(unit);
+    let n = ValidTime { time: t }.nanoseconds();
+    let next = scale.dividend * scale.length;
+    let quantity = n % next;
+    let rule = rounding::inner::get_unsigned_round_mode(mode, false);
+    let rounded = rounding::inner::round_small(quantity, increment * scale.length, rule);
+    carried(n - quantity + rounded)
+}
+
 // The days and the time of a number of nanoseconds.
-pub(crate) fn carried(n: u64) -> BalancedTime
+fn carried(n: u64) -> BalancedTime
     ensures { Carried n result }
 {
     BalancedTime {

@@ -6,7 +6,7 @@ pub mod inner;
 ghost use Rattle.std.specs.Prelude.{◌≡◌};
 ghost use Rattle.refusal.specs.Refusals.{answer_of};
 ghost use Rattle.iso_time.specs.Proposal.{time, is_valid_time, constrain_time};
-ghost use Rattle.iso_time.specs.Paper.{regulate_time, balance_time_fields, time_difference, rounded_time};
+ghost use Rattle.iso_time.specs.Paper.{regulate_time, bounded, balance_time_fields, time_difference, rounded_time};
 
 use inner::ValidTime;
 use options::{Overflow, Unit};
@@ -40,6 +40,13 @@ pub struct TimeDuration {
 
 // The largest size of a field to be balanced, 2^53 - 1.
 const MOST_FIELD: u64 = 9_007_199_254_740_991;
+
+// Whether a field to be balanced is within its bound.
+fn is_bounded(x: i64) -> bool
+    ensures { result ≡ bounded x }
+{
+    x.unsigned_abs() <= MOST_FIELD
+}
 
 impl IsoTime {
     // Whether every field is within its range.
@@ -110,25 +117,10 @@ impl IsoTime {
         ensures { answer_of result ≡ balance_time_fields hour minute second millisecond microsecond nanosecond }
     {
         let fields = [hour, minute, second, millisecond, microsecond, nanosecond];
-        if !fields.iter().all(|x| x.unsigned_abs() <= MOST_FIELD) {
+        if !fields.iter().all(|x| is_bounded(*x)) {
             return Err(Refusal::Bound);
         }
-        let micros = microsecond + nanosecond.div_euclid(1000);
-        let millis = millisecond + micros.div_euclid(1000);
-        let seconds = second + millis.div_euclid(1000);
-        let minutes = minute + seconds.div_euclid(60);
-        let hours = hour + minutes.div_euclid(60);
-        Ok(BalancedTime {
-            days: hours.div_euclid(24),
-            time: IsoTime {
-                hour: hours.rem_euclid(24) as u8,
-                minute: minutes.rem_euclid(60) as u8,
-                second: seconds.rem_euclid(60) as u8,
-                millisecond: millis.rem_euclid(1000) as u16,
-                microsecond: micros.rem_euclid(1000) as u16,
-                nanosecond: nanosecond.rem_euclid(1000) as u16,
-            },
-        })
+        Ok(inner::balance(hour, minute, second, millisecond, microsecond, nanosecond))
     }
 
     // The span from this time to another: the fields of each (1), then whole seconds and nanoseconds, cut towards zero.
@@ -142,7 +134,6 @@ impl IsoTime {
     }
 
     // The time rounded at a unit, with the day that may be carried: fields (1), a unit above day (5), an increment that is not allowed (6).
-    // The larger fields stay: what the next larger unit leaves is taken out of the time, rounded, and put back.
     #[tactic(auto, using(crate::proofs::Checks::round_laws))]
     pub fn round(
         self,
@@ -157,10 +148,6 @@ impl IsoTime {
         if !scale.allows(increment) {
             return Err(Refusal::Increment);
         }
-        let n = time.nanoseconds();
-        let quantity = n % (scale.dividend * scale.length);
-        let rule = rounding::inner::get_unsigned_round_mode(mode, false);
-        let rounded = rounding::inner::round_small(quantity, increment * scale.length, rule);
-        Ok(inner::carried(n - quantity + rounded))
+        Ok(inner::round(time.time, unit, increment, mode))
     }
 }

@@ -2,23 +2,26 @@
 use Prim.Native.Nat.{ℕ, zero, suc, ◌+◌, ◌-◌, ◌≤◌, ◌<◌}
 use native.Mathlib.Omega.{arith}
 use native.Mathlib.Numerals.{add-one}
-use mathlib.Core.Path.{◌≡◌, refl, sym, subst, ◌∙◌, ap}
+use mathlib.Core.Path.{◌≡◌, refl, sym, subst, ◌∙◌, ap, ap₂}
 use mathlib.Core.Bool.{Bool, true, false, cond, ◌&&◌}
 use mathlib.Core.List.{List, [], ◌∷◌, ◌++◌, append_assoc, append-nil}
 use mathlib.Core.Logic.{⊎_elim}
-use lib.ListN.{length, get_or, take, drop, drop_of_length-le}
+use lib.ListN.{length, get_or, take, drop, set, replicate, length-take, drop_of_length-le, take-append-drop}
 use borrow.Author.Tests.{ne_eqb}
-use lib.Seq.{drop-cons, drop-drop}
+use lib.Seq.{drop-cons, drop-drop, drop-set-lt, take-suc-set}
 use lib.IntN.{ℤ, pos, negsuc, nat_abs}
 use lib.Signed.{le_z, ◌≤ℤ◌}
 use Rattle.std.specs.Prelude.{Option, Some, None}
-use Rattle.arrayvec.specs.ArrayVec.{ArrayVec}
+use Rattle.std.specs.Coded.{Coded-set, coded_ℕ, coded_ℤ, coded_list}
+use Rattle.std.proofs.Math.Bridge.{le_prop}
 use Rattle.whole.proofs.Laws.{ints, split}
+use Rattle.whole.proofs.Tests.{clash}
 use Rattle.lines.proofs.Words.{word_there, rest_there}
 use Rattle.lines.specs.Text.{word, rest, Found, number, none, number_of, within}
 use Rattle.parameters.specs.Kinds.{Kind, Arguments, these, no_arguments, also, arguments}
-use Rattle.parameters.specs.Meaning.{Are, at, numbers_in, of_numbers, Reads, Holds}
+use Rattle.parameters.specs.Meaning.{Are, at, numbers_in, of_numbers, Reads, ReadsInto, Holds}
 use Rattle.parameters.specs.Letters.{letter_kind, letters_kinds, bounds_of}
+use Rattle.parameters.specs.declared.Numbers.{Numbers}
 
 -- ---- a number of a type lies between its bounds
 
@@ -98,6 +101,16 @@ module _ (letters line : List ℕ) (from : ℕ) where
     pub one_more : (z : ℤ) → number z ≡ found → Filled (zs ++ (z ∷ [])) (k + 1) end
     one_more z e = sym (joined_number zs z (left (k + 1) end)) ∙ (rw (next, ← e) at filled)
 
+-- a number that is put into a cell stands behind those of the cells before it, and leaves the cells behind it
+pub stored_more : (cells : List ℤ) (k : ℕ) (z : ℤ) → length cells ≡ 24 → k < 24 → take (k + 1) (set cells k z) ≡ take k cells ++ (z ∷ [])
+stored_more cells k z e h = let room : k < length cells = omega arith in rw (add-one k) (take-suc-set cells k z room)
+
+pub blank_more : (cells : List ℤ) (k : ℕ) (z : ℤ) → k < 24 → drop k cells ≡ replicate (24 - k) (pos 0) →
+    drop (k + 1) (set cells k z) ≡ replicate (24 - (k + 1)) (pos 0)
+blank_more cells k z h e =
+    let f : 24 - k ≡ suc (24 - (k + 1)) = omega arith in
+    drop-set-lt (k + 1) cells k z (omega arith) ∙ sym (drop-drop 1 k cells) ∙ ap (drop 1) (rw f at e)
+
 -- ---- what is known of a request's numbers
 
 are_also : (k : Kind) (ks : List Kind) (a : Found) (b : Arguments) (ws : List ℤ) → ((z : ℤ) → a ≡ number z → (k.low ≤ℤ z) × (z ≤ℤ k.high)) →
@@ -164,18 +177,76 @@ module _ (k : Kind) (ks : List Kind) (zs : List ℤ) (i : ℕ) (h : Are (k ∷ k
 
 -- ---- what was read
 
-one_reading : (n m : Option (ArrayVec ℤ)) → of_numbers n ≡ of_numbers m → n ≡ m
+-- two results that a reader's contract allows are one, to the last cell
+-- the facts of both are one, since there is at most one proof of each
+same_facts : (a : ℕ) (xs : List ℤ) (p q : a ≤ 24) (s t : length xs ≡ 24) (u v : drop a xs ≡ replicate (24 - a) (pos 0)) →
+    ◌≡◌ {A = Numbers} (record { count = a; cells = xs; count_fits = p; sized = s; others_blank = u })
+    (record { count = a; cells = xs; count_fits = q; sized = t; others_blank = v })
+same_facts a xs p q s t u v =
+    ap (λ (h : a ≤ 24). record { count = a; cells = xs; count_fits = h; sized = s; others_blank = u }) (le_prop p q) ∙
+    ap (λ (h : length xs ≡ 24). record { count = a; cells = xs; count_fits = q; sized = h; others_blank = u }) (Coded-set coded_ℕ _ _ s t) ∙
+    ap (λ (h : drop a xs ≡ replicate (24 - a) (pos 0)). record { count = a; cells = xs; count_fits = q; sized = t; others_blank = h })
+    (Coded-set (coded_list coded_ℤ) _ _ u v)
+
+same_numbers : (n m : Numbers) → n.count ≡ m.count → n.cells ≡ m.cells → n ≡ m
+same_numbers n m e f =
+    go n.count m.count n.cells m.cells e f n.count_fits m.count_fits n.sized m.sized n.others_blank m.others_blank
+  where
+    go : (a b : ℕ) (xs ys : List ℤ) → a ≡ b → xs ≡ ys → (p : a ≤ 24) (q : b ≤ 24) (s : length xs ≡ 24) (t : length ys ≡ 24)
+        (u : drop a xs ≡ replicate (24 - a) (pos 0)) (v : drop b ys ≡ replicate (24 - b) (pos 0)) →
+        ◌≡◌ {A = Numbers} (record { count = a; cells = xs; count_fits = p; sized = s; others_blank = u })
+        (record { count = b; cells = ys; count_fits = q; sized = t; others_blank = v })
+    go a b xs ys e f = rw (e, f) (same_facts b ys)
+
+one_numbers : (n m : Numbers) → numbers_in n ≡ numbers_in m → n ≡ m
+one_numbers n m t =
+    let c : n.count ≡ m.count = omega (
+      arith,
+      ap length t,
+      length-take n.count n.cells,
+      length-take m.count m.cells,
+      n.count_fits,
+      m.count_fits,
+      n.sized,
+      m.sized,
+    ) in
+    let d : drop n.count n.cells ≡ drop m.count m.cells = n.others_blank ∙ ap (λ (k : ℕ). replicate (24 - k) (pos 0)) c ∙ sym m.others_blank in
+    same_numbers n m c
+    (sym (take-append-drop n.count n.cells) ∙ ap₂ (λ (xs ys : List ℤ). xs ++ ys) t d ∙ take-append-drop m.count m.cells)
+
+one_reading : (n m : Option Numbers) → of_numbers n ≡ of_numbers m → n ≡ m
 one_reading None None e = refl
 one_reading None (Some m) e = cc
 one_reading (Some n) None e = cc
-one_reading (Some n) (Some m) e = let f : numbers_in n ≡ numbers_in m = cc in ap (λ (zs : List ℤ). Some (record { items = zs })) f
+one_reading (Some n) (Some m) e = let f : numbers_in n ≡ numbers_in m = cc in ap (λ (k : Numbers). Some k) (one_numbers n m f)
 
-pub read_once : {n m : Option (ArrayVec ℤ)} {a : Arguments} → Reads n a → Reads m a → n ≡ m
+pub read_once : {n m : Option Numbers} {a : Arguments} → Reads n a → Reads m a → n ≡ m
 read_once {n} {m} v w = one_reading n m (v.reads_as ∙ sym w.reads_as)
+
+-- the numbers that a reader fills, at its start and at each of its ends
+pub none_in : (n : Numbers) → n.count ≡ 0 → numbers_in n ≡ []
+none_in n e = rw e
+
+pub filled_in : {before after : Numbers} {a : Arguments} → these (numbers_in after) ≡ a → ReadsInto before true after a
+filled_in e = record { reads = record { reads_as = e }; kept = λ f. clash true refl f }
+
+pub left_as_it_was : (before after : Numbers) (a : Arguments) → before.count ≡ 0 → numbers_in after ≡ [] → no_arguments ≡ a →
+    ReadsInto before false after a
+left_as_it_was before after a c e f =
+    record { reads = record { reads_as = f }; kept = λ g. one_numbers after before (e ∙ sym (none_in before c)) }
+
+pub read_into_once : {before n m : Numbers} {s t : Bool} {a : Arguments} → ReadsInto before s n a → ReadsInto before t m a → (s ≡ t) × (n ≡ m)
+read_into_once {before} {n} {m} {s} {t} v w = go s t refl refl (read_once v.reads w.reads)
+  where
+    go : (x y : Bool) → s ≡ x → t ≡ y → ◌≡◌ {A = Option Numbers} (cond s (Some n) None) (cond t (Some m) None) → (s ≡ t) × (n ≡ m)
+    go true true e f g = (e ∙ sym f, let h : ◌≡◌ {A = Option Numbers} (Some n) (Some m) = rw (e, f) at g in cc)
+    go false false e f g = (e ∙ sym f, v.kept e ∙ sym (w.kept f))
+    go true false e f g = let h : ◌≡◌ {A = Option Numbers} (Some n) None = rw (e, f) at g in absurd cc
+    go false true e f g = let h : ◌≡◌ {A = Option Numbers} None (Some m) = rw (e, f) at g in absurd cc
 
 -- ---- the numbers of a request, group by group
 
-pub holds_all : (ks : List Kind) (text : List ℕ) (n : ArrayVec ℤ) → Reads (Some n) (arguments ks text) → Holds ks (numbers_in n) 0
+pub holds_all : (ks : List Kind) (text : List ℕ) (n : Numbers) → Reads (Some n) (arguments ks text) → Holds ks (numbers_in n) 0
 holds_all ks text n r = record { are = are_those ks text (numbers_in n) (sym r.reads_as) }
 
 -- the first m of them
@@ -210,3 +281,11 @@ module _ (k : Kind) (ks : List Kind) (zs : List ℤ) (i : ℕ) (h : Holds (k ∷
 pub small : (z : ℤ) (most : ℕ) → pos 0 ≤ℤ z → z ≤ℤ pos most → nat_abs z ≤ most
 small (pos n) most l h = omega (arith, ints)
 small (negsuc n) most l h = let f : ⊥ = omega (arith, ints) in absurd f
+
+-- ---- a letter that is none of those told apart
+
+pub other_letter : (l : ℕ) → (l ≡ 105 → ⊥) → (l ≡ 108 → ⊥) → (l ≡ 98 → ⊥) → (l ≡ 115 → ⊥) → (l ≡ 119 → ⊥) → (l ≡ 102 → ⊥) → (l ≡ 109 → ⊥) → (l ≡ 114 → ⊥) →
+    record { below = 0; high = 9 } ≡ bounds_of l
+unfolding bounds_of
+other_letter l a b c d e f g h =
+    rw (ne_eqb l 105 a, ne_eqb l 108 b, ne_eqb l 98 c, ne_eqb l 115 d, ne_eqb l 119 e, ne_eqb l 102 f, ne_eqb l 109 g, ne_eqb l 114 h)

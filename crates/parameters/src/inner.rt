@@ -1,11 +1,11 @@
 // The numbers of a request, and one of them as a value of its parameter's type.
 pub mod values;
 
-ghost use Rattle.std.specs.Prelude.{◌≡◌, ℤ, [], ◌∷◌, ◌≤◌, ◌≤ℤ◌, drop, length, nat_abs};
+ghost use Rattle.std.specs.Prelude.{◌≡◌, false, ℤ, [], ◌∷◌, ◌≤◌, ◌≤ℤ◌, drop, length, nat_abs};
 ghost use Rattle.lines.specs.Text.{number_of, within};
 ghost use Rattle.lines.specs.Meaning.{of_number};
 ghost use Rattle.parameters.specs.Kinds.{Kind, signed, unsigned, arguments};
-ghost use Rattle.parameters.specs.Meaning.{Reads, Holds, at};
+ghost use Rattle.parameters.specs.Meaning.{Reads, ReadsInto, Holds, numbers_in, at};
 ghost use Rattle.parameters.specs.Letters.{letter_kind, letters_kinds, bounds_of};
 
 use crate::{Bounds, Numbers};
@@ -18,20 +18,42 @@ pub fn numbers_of(line: &[u8], from: usize, letters: &[u8]) -> Option<Numbers>
     ensures { Reads result (arguments (letters_kinds letters.now) (drop from line.now)) }
 {
     let mut numbers = Numbers::new();
+    if read_numbers(line, from, letters, &mut numbers) {
+        Some(numbers)
+    } else {
+        None
+    }
+}
+
+// The same, put into numbers that are none yet, and whether the line is a request: so the cells are copied nowhere.
+pub fn read_numbers(line: &[u8], from: usize, letters: &[u8], numbers: &mut Numbers) -> bool
+    requires { (from ≤ length line.now) × (length letters.now ≤ 24) × (numbers.old.count ≡ 0) }
+    ensures { ReadsInto numbers.old result numbers.new (arguments (letters_kinds letters.now) (drop from line.now)) }
+{
     let mut at = from;
     for &letter in letters {
         if at == line.len() {
-            return None;
+            return no_numbers(numbers);
         }
         let start = at + 1;
         at = word_end(line, start);
-        let number = number_of(&line[start..at], letter)?;
+        let Some(number) = number_of(&line[start..at], letter) else {
+            return no_numbers(numbers);
+        };
         numbers.push(number);
     }
     if at < line.len() {
-        return None;
+        return no_numbers(numbers);
     }
-    Some(numbers)
+    true
+}
+
+// No numbers: the line is no request.
+fn no_numbers(numbers: &mut Numbers) -> bool
+    ensures { (result ≡ false) × (numbers_in numbers.new ≡ []) }
+{
+    *numbers = Numbers::new();
+    false
 }
 
 // The number that a word is, where it is of the letter's type.

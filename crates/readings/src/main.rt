@@ -105,10 +105,14 @@ fn main(rt: HostRuntime) -> io::Result<()> {
     Ok(())
 }
 
-// Prints a reading, the request that asks for it, and what is answered.
+// Prints a reading, the request that asks for it, and what is answered: piece by piece, so that what is printed before a write fails is
+// all that came before it.
 fn show(rt: &HostRuntime, reading: &str, request: &str) -> io::Result<()> {
+    rt.stdout().write_all(reading.as_bytes())?;
+    rt.stdout().write_all(b"\n    ")?;
+    rt.stdout().write_all(request.as_bytes())?;
+    rt.stdout().write_all(b"\n    ")?;
     let mut out = [0u8; 256];
     let filled = respond(request.as_bytes(), &mut out, 0);
-    print!(rt; "{reading}\n    {request}\n    ")?;
     rt.stdout().write_all(&out[..filled])
 }

@@ -1,8 +1,8 @@
 // Why a call refuses. Each reason has the number that is reported; an answer carries 0.
 #![tactic(auto)]
 
-ghost use Rattle.std.specs.Prelude.{◌≡◌};
-ghost use Rattle.refusal.specs.Refusals.{refusal_number};
+ghost use Rattle.std.specs.Prelude.{◌≡◌, Some};
+ghost use Rattle.refusal.specs.Refusals.{refusal_number, refusal_words};
 
 use std::error::Error;
 use std::fmt;
@@ -41,6 +41,10 @@ impl Refusal {
 }
 
 impl fmt::Display for Refusal {
+    ghost output = { λ refusal. Some (refusal_words refusal) };
+
+    ghost styled_output = { λ refusal spec. Some (refusal_words refusal) };
+
     fn fmt<W: fmt::Write>(&self, f: &mut fmt::Formatter<W>) -> fmt::Result {
         f.write_str(match self {
             Refusal::Field => "a field is not valid",

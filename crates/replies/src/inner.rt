@@ -4,6 +4,7 @@
 pub mod kinds;
 
 ghost use Rattle.std.specs.Prelude.{ℕ, ◌+◌, ◌*◌, ◌≤◌, List, ℤ, length};
+ghost use Rattle.refusal.specs.Answer.{refused};
 ghost use Rattle.refusal.specs.Refusals.{answer_of};
 ghost use Rattle.writing.specs.Text.{spaced};
 ghost use Rattle.writing.specs.Wrote.{Wrote};
@@ -36,6 +37,14 @@ pub fn reply<T: Values>(out: &mut [u8], at: usize, r: Result<T, Refusal>) -> usi
             let next = put_byte(out, at, b'0');
             answer.put(out, next)
         }
-        Err(refusal) => put_digits(out, at, u64::from(refusal.number())),
+        Err(e) => refusal(out, at, e.number()),
     }
+}
+
+// The reply that a refusal is, by its number, whatever number that is.
+pub fn refusal(out: &mut [u8], at: usize, n: u8) -> usize
+    requires { at + 255 ≤ length out.old }
+    ensures { Replied out.old at (refused n) out.new result }
+{
+    put_digits(out, at, u64::from(n))
 }

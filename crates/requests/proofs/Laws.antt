@@ -1,5 +1,5 @@
 -- The rows of the code are those of the contract's table; which entry has a name, and what answers a line then.
-use Rattle.std.proofs.Common.{ℕ, ℤ, zero, suc, ◌+◌, ◌≤◌, ◌<◌, ◌≡◌, refl, sym, ap, ◌∙◌, arith, Bool, true, false, cond, ◌&&◌, List, [], ◌∷◌, length, take, drop, map, get_or}
+use Rattle.std.proofs.Common.{ℕ, zero, suc, ◌+◌, ◌≤◌, ◌<◌, ◌≡◌, refl, sym, ap, ◌∙◌, arith, Bool, true, false, cond, ◌&&◌, List, [], ◌∷◌, length, take, drop, map, get_or}
 use Rattle.std.proofs.Common.{Bor, Option, Some, None, MatchOption, Decides}
 use Rattle.std.specs.List.{find}
 use Rattle.std.specs.Option.{option_map}
@@ -12,27 +12,27 @@ use Rattle.std.proofs.lemmas.Slice.Eq.{bytes_eq-Decides}
 use Rattle.lines.proofs.Words.{same_yes, same_no, word_start, rest_start_lem}
 use Rattle.parameters.specs.Kinds.{Kind, arguments}
 use Rattle.parameters.specs.Letters.{letters_kinds}
-use Rattle.parameters.specs.Meaning.{Reads, numbers_in}
-use Rattle.arrayvec.specs.ArrayVec.{ArrayVec}
+use Rattle.parameters.specs.Meaning.{Reads, ReadsInto, numbers_in}
+use Rattle.parameters.specs.declared.Numbers.{Numbers}
 use Rattle.replies.specs.Replies.{reply_text, question}
 use Rattle.calls.specs.Table.{Row, calls, text_calls, bytes, no_row, place_in}
 use Rattle.parameters.proofs.Laws.{holds_all}
 use Rattle.calls.specs.Ready.{Ready}
 use Rattle.requests.specs.Requests.{reply_with, reply_by, reply_to, line_room}
-use Rattle.requests.specs.Entries.{place_of_call, row_of, Named}
+use Rattle.requests.specs.Entries.{place_of_call, row_of, letters_of, Named}
 use Rattle.requests.specs.declared.inner.Entry.{Entry}
 use Rattle.text_calls.specs.Texts.{reply_by_text}
 
 -- ---- the rows of the code
 
--- what a row of the code says of its call: the name, the parameters and the place in the contract's table
-abbrev pub seen : Entry → List ℕ × (List Kind × ℕ)
-seen entry = (entry.name.now, (letters_kinds entry.letters.now, place_of_call entry.call))
+-- what a row of the code says of its call: the name, the letters, the parameters and the place in the contract's table
+abbrev pub seen : Entry → List ℕ × (List ℕ × (List Kind × ℕ))
+seen entry = (entry.name.now, (entry.letters.now, (letters_kinds entry.letters.now, place_of_call entry.call)))
 
 -- and what the rows of that table say, the first of them at the k-th place
-unfoldable pub wanted : ℕ → List Row → List (List ℕ × (List Kind × ℕ))
+unfoldable pub wanted : ℕ → List Row → List (List ℕ × (List ℕ × (List Kind × ℕ)))
 wanted k [] = []
-wanted k (r ∷ rs) = (bytes r.name, (r.takes, k)) ∷ wanted (suc k) rs
+wanted k (r ∷ rs) = (bytes r.name, (letters_of r.takes, (r.takes, k))) ∷ wanted (suc k) rs
 
 same_by : (t : Bool) (a b : List ℕ) → Decides t (a ≡ b) → same_bytes b a ≡ t
 same_by true a b d = same_yes b a (sym (d.0 refl))
@@ -41,18 +41,31 @@ same_by false a b d = same_no b a (λ e. clash false (d.1 (sym e)) refl)
 record At (k : ℕ) (rs : List Row) (name : List ℕ) (entry : Entry) : Type 0 where
   known : place_in rs name < length rs
   place : k + place_in rs name ≡ place_of_call entry.call
+  called : entry.name.now ≡ name
+  spelled : entry.letters.now ≡ letters_of (get_or rs (place_in rs name) no_row).takes
   letters : letters_kinds entry.letters.now ≡ (get_or rs (place_in rs name) no_row).takes
 
 module _ (name : List ℕ) where
   step : (t : Bool) (k : ℕ) (entry : Entry) (r : Row) (rs : List Row) (found : Option Entry) → same_bytes name (bytes r.name) ≡ t →
-      seen entry ≡ (bytes r.name, (r.takes, k)) → MatchOption found (place_in rs name ≡ length rs) (λ x. At (suc k) rs name x) →
+      seen entry ≡ (bytes r.name, (letters_of r.takes, (r.takes, k))) → (t ≡ true → entry.name.now ≡ name) →
+      MatchOption found (place_in rs name ≡ length rs) (λ x. At (suc k) rs name x) →
       MatchOption (cond t (Some entry) found) (place_in (r ∷ rs) name ≡ length (r ∷ rs)) (λ x. At k (r ∷ rs) name x)
   unfolding place_in
-  step true k entry r rs found e s h =
-      record { known = rw e (omega arith); place = rw e (omega (arith, ap (λ x. x.1.1) s)); letters = rw e (ap (λ x. x.1.0) s) }
-  step false k entry r rs None e s h = rw e (ap suc h)
-  step false k entry r rs (Some x) e s h =
-      record { known = rw e (omega (arith, h.known)); place = rw e (omega (arith, h.place)); letters = rw e h.letters }
+  step true k entry r rs found e s n h = record {
+    known = rw e (omega arith);
+    place = rw e (omega (arith, ap (λ x. x.1.1.1) s));
+    called = n refl;
+    spelled = rw e (ap (λ x. x.1.0) s);
+    letters = rw e (ap (λ x. x.1.1.0) s);
+  }
+  step false k entry r rs None e s n h = rw e (ap suc h)
+  step false k entry r rs (Some x) e s n h = record {
+    known = rw e (omega (arith, h.known));
+    place = rw e (omega (arith, h.place));
+    called = h.called;
+    spelled = rw e h.spelled;
+    letters = rw e h.letters;
+  }
 
   finds : (k : ℕ) (entries : List Entry) (rs : List Row) → map seen entries ≡ wanted k rs →
       MatchOption (find (λ entry. bytes_eq entry.name.now name) entries) (place_in rs name ≡ length rs) (λ x. At k rs name x)
@@ -61,10 +74,11 @@ module _ (name : List ℕ) where
   finds k [] (r ∷ rs) e = absurd cc
   finds k (entry ∷ entries) [] e = absurd cc
   finds k (entry ∷ entries) (r ∷ rs) e =
-      let s : seen entry ≡ (bytes r.name, (r.takes, k)) = cc in
+      let s : seen entry ≡ (bytes r.name, (letters_of r.takes, (r.takes, k))) = cc in
       let t : bytes_eq entry.name.now name ≡ same_bytes name (bytes r.name) = sym (same_by (bytes_eq entry.name.now name) entry.name.now name (bytes_eq-Decides entry.name.now name)) ∙ ap (same_bytes name) (ap (λ x. x.0) s) in
       let others : map seen entries ≡ wanted (suc k) rs = cc in
-      rw t (step (same_bytes name (bytes r.name)) k entry r rs (find (λ x. bytes_eq x.name.now name) entries) refl s (finds (suc k) entries rs others))
+      rw t (step (same_bytes name (bytes r.name)) k entry r rs (find (λ x. bytes_eq x.name.now name) entries) refl s
+      (λ h. (bytes_eq-Decides entry.name.now name).0 (t ∙ h)) (finds (suc k) entries rs others))
 
   pub named : (entries : List Entry) → map seen entries ≡ wanted 0 calls → (found : Option (Bor Entry)) →
       option_map (λ x. x.now) found ≡ find (λ entry. bytes_eq entry.name.now name) entries →
@@ -73,7 +87,7 @@ module _ (name : List ℕ) where
   named entries s (Some entry) e =
       let h : At 0 calls name entry.now = rw (← e) at (finds 0 entries calls s) in
       let p : place_in calls name ≡ place_of_call entry.now.call = omega (arith, h.place) in
-      record { known = h.known; place = p; letters = rw p at h.letters }
+      record { known = h.known; place = p; called = h.called; spelled = rw p at h.spelled; letters = rw p at h.letters }
 
 -- ---- a call has at most 24 parameters
 
@@ -156,12 +170,19 @@ module _ (line : List ℕ) (some : length line ≡ 0 → ⊥) (fits : length lin
         let h : Named (word line) entry = rw named_word at found in
         rw (ends, rest_start_lem line, h.letters, ← h.place) (sym (reply_at calls line h.known) ∙ by_calls line some fits)
 
-    pub no_reply : Reads None (arguments (letters_kinds entry.letters.now) (drop end line)) → question ≡ reply_to line
+    no_reply : Reads None (arguments (letters_kinds entry.letters.now) (drop end line)) → question ≡ reply_to line
     no_reply read = ap (reply_with (row_of entry.call).answers) read.reads_as ∙ there
 
-    module _ (n : ArrayVec ℤ) (read : Reads (Some n) (arguments (letters_kinds entry.letters.now) (drop end line))) where
-      pub good_reply : reply_text ((row_of entry.call).answers (numbers_in n)) ≡ reply_to line
-      good_reply = ap (reply_with (row_of entry.call).answers) read.reads_as ∙ there
+    -- what was read of it
+    module _ (before n : Numbers) (known : Bool) (read : ReadsInto before known n (arguments (letters_kinds entry.letters.now) (drop end line))) where
+      pub bad_reply : known ≡ false → question ≡ reply_to line
+      bad_reply e = no_reply (rw e at read.reads)
 
-      pub ready : (at : ℕ) (out : List ℕ) → at + 255 ≤ length out → Ready (row_of entry.call).takes (numbers_in n) at out
-      ready at out room = record { numbers = rw (← found.letters) (holds_all _ _ _ read); room = room }
+      these_are : known ≡ true → Reads (Some n) (arguments (letters_kinds entry.letters.now) (drop end line))
+      these_are e = rw e at read.reads
+
+      pub good_reply : known ≡ true → reply_text ((row_of entry.call).answers (numbers_in n)) ≡ reply_to line
+      good_reply e = ap (reply_with (row_of entry.call).answers) (these_are e).reads_as ∙ there
+
+      pub ready : known ≡ true → (at : ℕ) (out : List ℕ) → at + 255 ≤ length out → Ready (row_of entry.call).takes (numbers_in n) at out
+      ready e at out room = record { numbers = rw (← found.letters) (holds_all _ _ _ (these_are e)); room = room }

@@ -1,15 +1,17 @@
 // The line that answers a line, written into a lent buffer.
-ghost use Rattle.std.specs.Prelude.{◌≡◌, ◌+◌, ◌≤◌, length, MatchOption};
+ghost use Rattle.std.specs.Prelude.{◌≡◌, ◌+◌, ◌≤◌, length, take, MatchOption};
+ghost use Rattle.lines.specs.Text.{word};
 ghost use Rattle.writing.specs.Wrote.{Wrote};
 ghost use Rattle.replies.specs.Replies.{Replied};
 ghost use Rattle.calls.specs.Table.{calls, place_in};
 ghost use Rattle.calls.specs.Ready.{Ready};
-ghost use Rattle.requests.specs.Requests.{reply_to, response_to};
+ghost use Rattle.requests.specs.Requests.{reply_to, response_to, line_room};
 ghost use Rattle.requests.specs.Entries.{row_of, Named};
 
 use calls::inner::{date_times, dates, durations, sums, times};
 use lines::word_end;
-use parameters::inner::numbers_of;
+use parameters::Numbers;
+use parameters::inner::read_numbers;
 use text_calls::inner::{answer_text, write_date, write_datetime, write_time};
 use writing::inner::put_byte;
 
@@ -232,10 +234,7 @@ fn reply(line: &[u8], out: &mut [u8], at: usize) -> usize
     let Some(entry) = entry_named(&line[..end]) else {
         return answer_text(line, end, out, at);
     };
-    let Some(n) = numbers_of(line, end, entry.letters) else {
-        return put_byte(out, at, b'?');
-    };
-    entry.call.answer(&n, out, at)
+    entry.answer(line, end, out, at)
 }
 
 // The entry of the call that has the name.
@@ -243,6 +242,21 @@ fn entry_named(name: &[u8]) -> Option<&'static Entry>
     ensures { MatchOption result (place_in calls name.now ≡ length calls) (λ entry. Named name.now entry.now) }
 {
     ENTRIES.iter().find(|entry| entry.name == name)
+}
+
+impl Entry {
+    // What its call answers to the numbers of a line whose first word ends at `end`. The numbers live here alone: other lines need none.
+    fn answer(&self, line: &[u8], end: usize, out: &mut [u8], at: usize) -> usize
+        requires { (end ≡ length (word line.now)) × (1 ≤ length line.now) × (length line.now ≤ line_room) ×
+            Named (take end line.now) self.now × (at + 255 ≤ length out.old) }
+        ensures { Wrote out.old at (reply_to line.now) out.new result × (result ≤ at + 255) }
+    {
+        let mut numbers = Numbers::new();
+        if !read_numbers(line, end, self.letters, &mut numbers) {
+            return put_byte(out, at, b'?');
+        }
+        self.call.answer(numbers.as_slice(), out, at)
+    }
 }
 
 impl Call {

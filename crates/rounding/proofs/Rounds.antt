@@ -11,13 +11,9 @@ use lib.Dec.{leb, ltb, eqb}
 use mir.Syntax.{w64}
 use mir.Val.{SFits, bool_byte}
 use lib.ListN.{get_or}
-use lib.IntN.{ℤ, pos, negsuc, neg_ℤ, neg_ℤ-neg_ℤ, ◌+ℤ◌, ◌*ℤ◌, +ℤ_idr}
+use lib.IntN.{ℤ, pos, negsuc, neg_ℤ, nat_abs, neg_ℤ-neg_ℤ, ◌+ℤ◌, ◌*ℤ◌, +ℤ_idr}
 use lib.Signed.{lt_z, le_z, ◌≤ℤ◌, ◌<ℤ◌}
-use Rattle.std.specs.Prelude.{Option, Some, None, SomeIff}
-use Rattle.std.specs.Option.{ok_or}
 use Rattle.refusal.specs.Answer.{given, refused}
-use Rattle.refusal.specs.Refusals.{answer_of}
-use Rattle.refusal.specs.declared.Refusal.TheVariants.{Bound}
 use Rattle.whole.specs.Whole.{◌⊖◌, fdiv, fmod}
 use Rattle.whole.proofs.Laws.{up, split, whole, ints, fdiv_unique, read_neg, range_of}
 use Rattle.whole.proofs.Tests.{clash, both}
@@ -305,6 +301,15 @@ by_size_neg : (n step : ℕ) (rule : UnsignedRoundingMode) → by_size (negsuc n
 unfolding by_size
 by_size_neg n step rule = refl
 
+-- by the size, where the number is known by its sign
+pub by_size_above : (x : ℤ) (step : ℕ) (rule : UnsignedRoundingMode) → pos 0 ≤ℤ x → by_size x step rule ≡ pos (rounded_size (nat_abs x) step rule)
+by_size_above (pos m) step rule h = by_size_pos m step rule
+by_size_above (negsuc n) step rule h = absurd h.le
+
+pub by_size_below : (x : ℤ) (m step : ℕ) (rule : UnsignedRoundingMode) → x ≡ neg_ℤ (pos m) → 1 ≤ m → by_size x step rule ≡ neg_ℤ (pos (rounded_size m step rule))
+by_size_below x zero step rule e h = absurd (omega arith)
+by_size_below x (suc n) step rule e h = ap (λ (z : ℤ). by_size z step rule) e ∙ by_size_neg n step rule
+
 -- two results that are one where there is a step get one answer
 same_rounded : (step : ℕ) (y z : ℤ) → (0 < step → y ≡ z) → rounded step y ≡ rounded step z
 same_rounded zero y z h = refl
@@ -360,10 +365,19 @@ not_signed64 z h = go (in_signed64 z) refl
         let b = both (le_z (neg_ℤ (pos (2 ^ 63))) z) (le_z z (pos (2 ^ 63 - 1))) e in
         absurd (h (record { sfits = omega (arith, ints, b.0, b.1, range_of z) }))
 
--- a size that 64 bits do not hold
-pub too_large : (t : Bool) (n : ℕ) → (n < 2 ^ 64 → ⊥) → SFits w64 (cond t (neg_ℤ (pos n)) (pos n)) → ⊥
-too_large true n h f = omega (arith, ints, h, f.sfits, range_of (neg_ℤ (pos n)), read_neg (pos n))
-too_large false n h f = omega (arith, ints, h, f.sfits)
+-- a size up to the most that an answer of its sign holds, and one that is past it
+module _ (n most : ℕ) where
+  pub fits_above : n ≤ most → most ≤ 2 ^ 63 - 1 → SFits w64 (pos n)
+  fits_above h k = record { sfits = omega arith }
+
+  pub fits_below : n ≤ most → most ≤ 2 ^ 63 → SFits w64 (neg_ℤ (pos n))
+  fits_below h k = record { sfits = omega (arith, range_of (neg_ℤ (pos n)), read_neg (pos n)) }
+
+  pub past_above : (n ≤ most → ⊥) → 2 ^ 63 - 1 ≤ most → SFits w64 (pos n) → ⊥
+  past_above h k f = omega (arith, h, f.sfits)
+
+  pub past_below : (n ≤ most → ⊥) → 2 ^ 63 ≤ most → SFits w64 (neg_ℤ (pos n)) → ⊥
+  past_below h k f = omega (arith, h, f.sfits, range_of (neg_ℤ (pos n)), read_neg (pos n))
 
 module _ (step : ℕ) (z : ℤ) (some : step ≡ 0 → ⊥) where
   step_some : 0 < step
@@ -374,7 +388,3 @@ module _ (step : ℕ) (z : ℤ) (some : step ≡ 0 → ⊥) where
 
   pub rounded_past : (SFits w64 z → ⊥) → refused 7 ≡ rounded step z
   rounded_past h = rw (lt-ltb 0 step step_some, not_signed64 z h)
-
-  pub rounded_checked : (o : Option ℤ) → SomeIff o (SFits w64 z) z → answer_of (ok_or o Bound) ≡ rounded step z
-  rounded_checked (Some x) h = ap given h.1 ∙ rounded_given h.0
-  rounded_checked None h = rounded_past h

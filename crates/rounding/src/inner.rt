@@ -1,6 +1,5 @@
 // The rounder on sizes: a quotient and what it leaves, the choice between the two multiples, and the size that comes out.
-ghost use Rattle.std.specs.Prelude.{◌≡◌, cond, ◌+◌, ◌-◌, ◌*◌, ◌/◌, ◌%◌, ◌≤◌, ◌<◌, ◌^◌, eqb, pos, neg_ℤ, FitsSigned, SomeIff};
-ghost use Rattle.std.specs.Int.{w64};
+ghost use Rattle.std.specs.Prelude.{◌≡◌, cond, ◌+◌, ◌-◌, ◌*◌, ◌/◌, ◌%◌, ◌≤◌, ◌<◌, ◌^◌, eqb, leb, ltb, pos, neg_ℤ, ◌<ℤ◌, SomeIff};
 ghost use Rattle.refusal.specs.Refusals.{answer_of};
 ghost use Rattle.rounding.specs.Proposal.{get_unsigned_rounding_mode};
 ghost use Rattle.rounding.specs.Paper.{rounded};
@@ -8,6 +7,7 @@ ghost use Rattle.rounding.specs.Inner.{mode_row, takes_up, rounded_size, mirrore
 
 use crate::{RoundingMode, UnsignedRoundingMode};
 use refusal::Refusal;
+use whole::inner::negated;
 
 // The rule for a size between two multiples, by mode and sign: the first column is for positive numbers, the second for negative ones.
 // A table, which the users asked for.
@@ -50,6 +50,11 @@ const RULES: [[UnsignedRoundingMode; 2]; 9] = [
     ],
 ];
 
+// The largest size of an answer above and below zero.
+pub const MOST_ABOVE: u64 = 0x7fff_ffff_ffff_ffff;
+
+pub const MOST_BELOW: u64 = 0x8000_0000_0000_0000;
+
 impl RoundingMode {
     // The row of a mode in the table.
     fn row(self) -> usize
@@ -66,37 +71,56 @@ pub fn get_unsigned_round_mode(mode: RoundingMode, negative: bool) -> UnsignedRo
     RULES[mode.row()][usize::from(negative)]
 }
 
-impl UnsignedRoundingMode {
-    // The rule that takes the other of two multiples, seen from the other side of zero.
-    pub fn mirrored(self) -> UnsignedRoundingMode
-        ensures { result ≡ mirrored self }
-    {
-        match self {
-            UnsignedRoundingMode::Infinity => UnsignedRoundingMode::Zero,
-            UnsignedRoundingMode::Zero => UnsignedRoundingMode::Infinity,
-            UnsignedRoundingMode::HalfInfinity => UnsignedRoundingMode::HalfZero,
-            UnsignedRoundingMode::HalfZero => UnsignedRoundingMode::HalfInfinity,
-            UnsignedRoundingMode::HalfEven => UnsignedRoundingMode::HalfEven,
-        }
+// The rule that takes the other of two multiples, seen from the other side of zero.
+pub fn mirrored(rule: UnsignedRoundingMode) -> UnsignedRoundingMode
+    ensures { result ≡ mirrored rule }
+{
+    match rule {
+        UnsignedRoundingMode::Infinity => UnsignedRoundingMode::Zero,
+        UnsignedRoundingMode::Zero => UnsignedRoundingMode::Infinity,
+        UnsignedRoundingMode::HalfInfinity => UnsignedRoundingMode::HalfZero,
+        UnsignedRoundingMode::HalfZero => UnsignedRoundingMode::HalfInfinity,
+        UnsignedRoundingMode::HalfEven => UnsignedRoundingMode::HalfEven,
     }
+}
 
-    // Whether the upper of two multiples is taken, by the distance down to the lower one and the distance to the one above. The tie
-    // test compares the two distances, so nothing is doubled. A tie goes to the even multiple, so up where the lower one is odd.
-    #[tactic(auto, unfolding(crate::specs::Inner::takes_up))]
-    pub fn takes_up(self, odd: bool, down: u64, above: u64) -> bool
-        ensures { result ≡ takes_up self odd down above }
-    {
-        if down == 0 {
-            return false;
-        }
-        match self {
-            UnsignedRoundingMode::Infinity => true,
-            UnsignedRoundingMode::Zero => false,
-            UnsignedRoundingMode::HalfInfinity => above <= down,
-            UnsignedRoundingMode::HalfZero => above < down,
-            UnsignedRoundingMode::HalfEven if odd => above <= down,
-            UnsignedRoundingMode::HalfEven => above < down,
-        }
+// Whether the upper of two multiples is taken, by the distance down to the lower one and the distance to the one above. The tie test
+// compares the two distances, so nothing is doubled. A tie goes to the even multiple, so up where the lower one is odd.
+#[tactic(auto, unfolding(crate::specs::Inner::takes_up))]
+pub fn takes_up(rule: UnsignedRoundingMode, odd: bool, down: u64, above: u64) -> bool
+    ensures { result ≡ takes_up rule odd down above }
+{
+    if down == 0 {
+        return false;
+    }
+    match rule {
+        UnsignedRoundingMode::Infinity => true,
+        UnsignedRoundingMode::Zero => false,
+        UnsignedRoundingMode::HalfInfinity => above <= down,
+        UnsignedRoundingMode::HalfZero => above < down,
+        UnsignedRoundingMode::HalfEven => past_half_or_odd(odd, down, above),
+    }
+}
+
+// The same for half-even. No guard in the match above: that became a branch, which a random time mispredicts every second time.
+fn past_half_or_odd(odd: bool, down: u64, above: u64) -> bool
+    ensures { result ≡ cond odd (leb above down) (ltb above down) }
+{
+    if odd { above <= down } else { above < down }
+}
+
+// The lower multiple or the one a step above it, where it is at most `most`.
+pub fn multiple(lower: u64, step: u64, up: bool, most: u64) -> Option<u64>
+    requires { lower ≤ most }
+    ensures { SomeIff result (lower + cond up step 0 ≤ most) (lower + cond up step 0) }
+{
+    if !up {
+        return Some(lower);
+    }
+    if most - lower < step {
+        None
+    } else {
+        Some(lower + step)
     }
 }
 
@@ -109,20 +133,16 @@ fn lower_multiple(size: u64, step: u64, rule: UnsignedRoundingMode) -> (u64, boo
     let q = size / step;
     let lower = q * step;
     let left = size - lower;
-    (lower, rule.takes_up(q % 2 == 1, left, step - left))
+    (lower, takes_up(rule, q % 2 == 1, left, step - left))
 }
 
-// A size rounded to a step by a rule, where 64 bits hold it.
-fn round_size(size: u64, step: u64, rule: UnsignedRoundingMode) -> Option<u64>
-    requires { 0 < step }
-    ensures { SomeIff result (rounded_size size step rule < 2 ^ 64) (rounded_size size step rule) }
+// A size rounded to a step by a rule, where it is at most `most`.
+pub fn round_size(size: u64, step: u64, rule: UnsignedRoundingMode, most: u64) -> Option<u64>
+    requires { (0 < step) × (size ≤ most) }
+    ensures { SomeIff result (rounded_size size step rule ≤ most) (rounded_size size step rule) }
 {
     let (lower, up) = lower_multiple(size, step, rule);
-    if up {
-        lower.checked_add(step)
-    } else {
-        Some(lower)
-    }
+    multiple(lower, step, up, most)
 }
 
 // The same where both are small enough that the result is a number of 64 bits. It stands beside the other, so that rounding a time does
@@ -135,15 +155,12 @@ pub fn round_small(size: u64, step: u64, rule: UnsignedRoundingMode) -> u64
     if up { lower + step } else { lower }
 }
 
-// The number of a size and a sign, where 64 bits with a sign hold it. The sign is a bool, as it is in the proposal's rules.
-fn signed(negative: bool, size: u64) -> Option<i64>
-    ensures { SomeIff result (FitsSigned w64 (cond negative (neg_ℤ (pos size)) (pos size))) (cond negative (neg_ℤ (pos size)) (pos size)) }
+// The size of a negative number.
+fn size_of_negative(x: i64) -> u64
+    requires { x <ℤ pos 0 }
+    ensures { (x ≡ neg_ℤ (pos result)) × ((1 ≤ result) × (result ≤ 2 ^ 63)) }
 {
-    if negative {
-        0_i64.checked_sub_unsigned(size)
-    } else {
-        0_i64.checked_add_unsigned(size)
-    }
+    x.unsigned_abs()
 }
 
 // A number rounded by its size: a step of 0 is 6, an exact result that 64 bits with a sign do not hold is 7.
@@ -153,6 +170,12 @@ pub fn round_by_size(number: i64, step: u64, rule: UnsignedRoundingMode) -> Resu
     if step == 0 {
         return Err(Refusal::Increment);
     }
-    let size = round_size(number.unsigned_abs(), step, rule).ok_or(Refusal::Bound)?;
-    signed(number < 0, size).ok_or(Refusal::Bound)
+    if number < 0 {
+        let below = size_of_negative(number);
+        let size = round_size(below, step, rule, MOST_BELOW).ok_or(Refusal::Bound)?;
+        Ok(negated(size))
+    } else {
+        let size = round_size(number.unsigned_abs(), step, rule, MOST_ABOVE).ok_or(Refusal::Bound)?;
+        Ok(size as i64)
+    }
 }

@@ -48,7 +48,7 @@ pub fn round_as_if_positive(number: i64, step: u64, mode: RoundingMode) -> Resul
 {
     let rule = inner::get_unsigned_round_mode(mode, false);
     if number < 0 {
-        inner::round_by_size(number, step, rule.mirrored())
+        inner::round_by_size(number, step, inner::mirrored(rule))
     } else {
         inner::round_by_size(number, step, rule)
     }

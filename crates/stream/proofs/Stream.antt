@@ -101,8 +101,8 @@ pub record Sized (k : Kept) : Type 0 where
 -- another byte joins the line
 module _ (line : List ℕ) (b : ℕ) where
   joined_by : (t : Bool) (have : ℕ) → ltb have (length line) ≡ t → length line ≡ line_room → have ≤ line_room →
-      Sized (cond t (kept (set line have b) (Buffered (have + 1))) (kept line Outgrown)) ×
-      Holds (take have line ++ (b ∷ [])) (cond t (kept (set line have b) (Buffered (have + 1))) (kept line Outgrown))
+      Sized (cond t (kept (set line have b) (Buffered (have + 1))) (kept line (Outgrown have))) ×
+      Holds (take have line ++ (b ∷ [])) (cond t (kept (set line have b) (Buffered (have + 1))) (kept line (Outgrown have)))
   joined_by true have e s h =
       let l : have < length line = ltb-true _ _ e in
       (record { long = length-set line have b ∙ s; some = omega (arith, s) }, record { stands = sym (rw (add-one have) (take-suc-set line have b l)) })
@@ -111,10 +111,20 @@ module _ (line : List ℕ) (b : ℕ) where
       let f : length line ≤ have = ltb-false _ _ e in
       (record { long = s; some = omega arith }, record { stands = rw (length-append (take have line) (b ∷ [])) (omega (arith, s)) })
 
+  outgrown_by : (t : Bool) (have : ℕ) (p : List ℕ) → ltb have (length line) ≡ t → length line ≡ line_room → have ≤ line_room →
+      line_room < length p →
+      Sized (cond t (kept (set line have b) (Outgrown (have + 1))) (kept line (Outgrown have))) ×
+      Holds (p ++ (b ∷ [])) (cond t (kept (set line have b) (Outgrown (have + 1))) (kept line (Outgrown have)))
+  outgrown_by true have p e s h l =
+      let i : have < length line = ltb-true _ _ e in
+      let longer : line_room < length (p ++ (b ∷ [])) = rw (length-append p (b ∷ [])) (omega (arith, l)) in
+      (record { long = length-set line have b ∙ s; some = omega (arith, s) }, record { stands = longer })
+  outgrown_by false have p e s h l = (record { long = s; some = h }, record { stands = rw (length-append p (b ∷ [])) (omega (arith, l)) })
+
   pub joins : (p : List ℕ) (q : Pending) → Sized (kept line q) → Holds p (kept line q) → Sized (joined line q b) × Holds (p ++ (b ∷ [])) (joined line q b)
   joins p (Buffered have) s h =
       rw h.stands (joined_by (ltb have (length line)) have refl s.long s.some)
-  joins p Outgrown s h = (record { long = s.long; some = omega arith }, record { stands = rw (length-append p (b ∷ [])) (omega (arith, h.stands)) })
+  joins p (Outgrown have) s h = outgrown_by (ltb have (length line)) have p refl s.long s.some h.stands
 
 holds_by : (t : Bool) (k : Kept) (b : ℕ) (bs p : List ℕ) → Sized k → Holds p k →
     ((j : Kept) (q : List ℕ) → Sized j → Holds q j → Holds (pending_after q bs) (kept_after j bs)) →
@@ -132,11 +142,11 @@ holds_after (b ∷ bs) k p s h = holds_by (eqb b newline) k b bs p s h (λ j q. 
 -- something is pending that is kept so
 abbrev pending_of : List ℕ → Pending → List ℕ
 pending_of line (Buffered have) = take have line
-pending_of line Outgrown = replicate (suc line_room) 0
+pending_of line (Outgrown have) = replicate (suc line_room) 0
 
 holds_pending : (line : List ℕ) (p : Pending) → Holds (pending_of line p) (kept line p)
 holds_pending line (Buffered have) = record { stands = refl }
-holds_pending line Outgrown = record { stands = rw length-replicate (omega arith) }
+holds_pending line (Outgrown have) = record { stands = rw length-replicate (omega arith) }
 
 -- ---- the end of the input, and of a line that is too long
 
@@ -154,7 +164,7 @@ last_some (b ∷ bs) h = refl
 pub last_whole : (p line : List ℕ) (q : Pending) → Holds p (kept line q) → buffered q ≤ length line → (q ≡ Buffered 0 → ⊥) → response_to p ≡ last_answer p
 last_whole p line (Buffered have) h l n =
     last_some p (omega (arith, ap length h.stands ∙ length-take-le have line l, λ (e : have ≡ 0). n (ap (λ (k : ℕ). Buffered k) e)))
-last_whole p line Outgrown h l n = last_some p (omega (arith, h.stands))
+last_whole p line (Outgrown have) h l n = last_some p (omega (arith, h.stands))
 
 pub last_none : (p line : List ℕ) (have : ℕ) → have ≡ 0 → Holds p (kept line (Buffered have)) → [] ≡ last_answer p
 unfolding last_answer

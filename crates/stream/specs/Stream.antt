@@ -26,7 +26,7 @@ last_answer (b ∷ bs) = response_to (b ∷ bs)
 abbrev pub output_of : List ℕ → List ℕ
 output_of input = answered [] input ++ last_answer (pending_after [] input)
 
--- ---- what is kept of a line that has not ended: the line buffer, and how much of it is the line's, or that the line outgrew it
+-- ---- what is kept of a line that has not ended: the line buffer, how much of it is the line's, and whether the line outgrew it
 
 pub record Kept : Type 0 where
   pub line : List ℕ
@@ -38,20 +38,20 @@ kept line p = record { line = line; pending = p }
 -- how many bytes of the line buffer are the line's
 abbrev pub buffered : Pending → ℕ
 buffered (Buffered have) = have
-buffered Outgrown = 0
+buffered (Outgrown have) = have
 
 -- what is pending stands at the start of the line buffer, or is longer than any request
 abbrev StandsAs : List ℕ → List ℕ → Pending → Type 0
 StandsAs pending line (Buffered have) = pending ≡ take have line
-StandsAs pending line Outgrown = line_room < length pending
+StandsAs pending line (Outgrown have) = line_room < length pending
 
 pub record Holds (pending : List ℕ) (k : Kept) : Type 0 where
   pub stands : StandsAs pending k.line k.pending
 
 -- a byte more: a newline leaves nothing pending, and another byte is stored while there is room; no other byte of the buffer changes
 abbrev pub joined : List ℕ → Pending → ℕ → Kept
-joined line (Buffered have) b = cond (ltb have (length line)) (kept (set line have b) (Buffered (have + 1))) (kept line Outgrown)
-joined line Outgrown b = kept line Outgrown
+joined line (Buffered have) b = cond (ltb have (length line)) (kept (set line have b) (Buffered (have + 1))) (kept line (Outgrown have))
+joined line (Outgrown have) b = cond (ltb have (length line)) (kept (set line have b) (Outgrown (have + 1))) (kept line (Outgrown have))
 
 unfoldable pub kept_with : Kept → ℕ → Kept
 kept_with k b = cond (eqb b newline) (kept k.line (Buffered 0)) (joined k.line k.pending b)

@@ -7,12 +7,12 @@ ghost use Rattle.stream.specs.Stream.{last_answer, response_room, buffered, join
 use requests::inner::respond;
 use writing::inner::put_byte;
 
-// What is kept of a line that has not ended: so many bytes of it stand at the start of the line buffer, or it outgrew that. No Option of
-// how many: to have outgrown the buffer is a state, which more bytes do not change.
+// What is kept of a line that has not ended: so many bytes of it stand at the start of the line buffer, and are all of it, or the line
+// outgrew that, however many stand there.
 #[derive(Clone, Copy, Debug, PartialEq, Eq)]
 pub enum Pending {
     Buffered(usize),
-    Outgrown,
+    Outgrown(usize),
 }
 
 // How far the taking of a block has come: the place of the next byte, the line that has not ended, and how much of the output buffer
@@ -29,14 +29,15 @@ const ROOM: usize = 256;
 
 // Takes the bytes of the block from a place on, and answers each line that ends among them. It stops at the block's end, and before
 // it where the output buffer has no room for one more response.
-// What is lent has any length (`take_lines`, `end_input`), so the buffers stand beside the state.
+// The line buffer is as long as the longest request. The block and the output buffer are lent in any length, and to `end_input` the line
+// buffer is too, so the buffers stand beside the state.
 pub fn take_lines(block: &[u8], line: &mut [u8], out: &mut [u8], s: Progress) -> Progress
     requires { Inside block.now line.old out.old s }
     ensures took { Took block.now line.old out.old s line.new out.new result }
     ensures stops { Stops block.now out.old result }
 {
     let mut state = s;
-    for _ in s.at..block.len() {
+    while state.at < block.len() {
         if out.len() - state.filled < ROOM {
             return state;
         }
@@ -54,7 +55,7 @@ pub fn end_input(line: &[u8], out: &mut [u8], s: Progress) -> usize
 {
     match s.pending {
         Pending::Buffered(0) => s.filled,
-        _ => end_line(line, out, s),
+        _ => end_line(line, out, s.filled, s.pending),
     }
 }
 
@@ -66,7 +67,7 @@ fn take_byte(block: &[u8], line: &mut [u8], out: &mut [u8], s: Progress) -> Prog
     let byte = block[s.at];
     let at = s.at + 1;
     if byte == b'\n' {
-        let filled = end_line(line, out, s);
+        let filled = end_line(line, out, s.filled, s.pending);
         return Progress {
             at,
             pending: Pending::Buffered(0),
@@ -81,16 +82,15 @@ fn take_byte(block: &[u8], line: &mut [u8], out: &mut [u8], s: Progress) -> Prog
 }
 
 // Answers the line that has come to its end. One that outgrew the line buffer is longer than any request.
-fn end_line(line: &[u8], out: &mut [u8], s: Progress) -> usize
-    requires { (buffered s.pending ≤ length line.now) × (s.filled + response_room ≤ length out.old) }
+fn end_line(line: &[u8], out: &mut [u8], filled: usize, pending: Pending) -> usize
+    requires { (buffered pending ≤ length line.now) × (filled + response_room ≤ length out.old) }
     ensures inside { result ≤ length out.old }
-    ensures wrote { (pending : List ℕ) → Holds pending (kept line.now s.pending) →
-        Wrote out.old s.filled (response_to pending) out.new result }
+    ensures wrote { (text : List ℕ) → Holds text (kept line.now pending) → Wrote out.old filled (response_to text) out.new result }
 {
-    match s.pending {
-        Pending::Buffered(have) => respond(&line[..have], out, s.filled),
-        Pending::Outgrown => {
-            let end = put_byte(out, s.filled, b'?');
+    match pending {
+        Pending::Buffered(have) => respond(&line[..have], out, filled),
+        Pending::Outgrown(_) => {
+            let end = put_byte(out, filled, b'?');
             put_byte(out, end, b'\n')
         }
     }
@@ -102,13 +102,14 @@ impl Pending {
         requires { buffered self ≤ length line.old }
         ensures { kept line.new result ≡ joined line.old self byte }
     {
+        let (Pending::Buffered(have) | Pending::Outgrown(have)) = self;
+        if have >= line.len() {
+            return Pending::Outgrown(have);
+        }
+        line[have] = byte;
         match self {
-            Pending::Buffered(have) if have < line.len() => {
-                line[have] = byte;
-                Pending::Buffered(have + 1)
-            }
-            Pending::Buffered(_) => Pending::Outgrown,
-            Pending::Outgrown => self,
+            Pending::Buffered(_) => Pending::Buffered(have + 1),
+            Pending::Outgrown(_) => Pending::Outgrown(have + 1),
         }
     }
 }

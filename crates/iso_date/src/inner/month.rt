@@ -4,10 +4,7 @@ ghost use Rattle.whole.specs.Whole.{◌⊖◌};
 ghost use Rattle.iso_date.specs.Proposal.{leap_year, month_lengths, day_from_month};
 ghost use Rattle.iso_date.specs.Inner.{year_bias, day_bias};
 
-use super::{days_before, is_leap, year_start, year_up};
-
-// The lengths of the months of a common year. A table, which the users asked for.
-const MONTH_LENGTHS: [u8; 12] = [31, 28, 31, 30, 31, 30, 31, 31, 30, 31, 30, 31];
+use super::{MONTH_LENGTHS, days_before, is_leap, year_start, year_up};
 
 // A year and one of its months, both as naturals; the months are counted from 0.
 #[derive(Clone, Copy)]
@@ -29,7 +26,7 @@ impl UpMonth {
         }
     }
 
-    // How many days it has.
+    // How many days it has. The leap test is made for every month, so that nothing branches: what also takes the start has it once.
     #[tactic(auto, using(crate::proofs::Tables::length_sum))]
     pub fn days(self) -> u8
         ensures { (result ≡ get_or (month_lengths (leap_year (self.year ⊖ year_bias))) self.index 0) × (result ≤ 31) }

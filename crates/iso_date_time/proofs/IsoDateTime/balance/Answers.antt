@@ -2,7 +2,7 @@
 use Rattle.std.proofs.Common.{rules, ◌≡◌, w64, to_z, of_z}
 use Rattle.std.proofs.lemmas.Result.{err_from_is_err_and}
 use mir.Facts.{to_z-of_z}
-use Rattle.iso_date_time.proofs.Moments.{balance_bound, balance_count, balance_is, carry_small}
+use Rattle.iso_date_time.proofs.Moments.{bound_handed_on, count_handed_on, balance_is, carry_small}
 use Rattle.iso_date_time.proofs.IsoDateTime.balance.Goals as goal
 
 pub returns-in_err-balanced : goal.returns-in_err-balanced
@@ -10,7 +10,7 @@ returns-in_err-balanced c =
     let f = c.ranges in
     let p = err_from_is_err_and c.from_residual.result c.from_residual.ensures.1 in
     let most = rw (to_z-of_z f.hour, to_z-of_z f.minute, to_z-of_z f.second, to_z-of_z f.millisecond) at c.in_err-balanced.ensures in
-    rw (p.1, p.2) (balance_bound _ _ _ _ _ _ _ _ _ _ (rw (to_z-of_z f.microsecond, to_z-of_z f.nanosecond) at most))
+    rw (p.1, p.2) (bound_handed_on _ _ _ _ _ _ _ _ _ _ (rw (to_z-of_z f.microsecond, to_z-of_z f.nanosecond) at most))
 
 pub balance_sum-requires : goal.balance_sum-requires
 balance_sum-requires c =
@@ -26,7 +26,7 @@ returns-in_err-date c =
     let p = err_from_is_err_and c.from_residual-in_err-date.result c.from_residual-in_err-date.ensures.1 in
     let most = rw (to_z-of_z f.hour, to_z-of_z f.minute, to_z-of_z f.second, to_z-of_z f.millisecond) at c.in_ok-balanced.ensures in
     let time = rw (to_z-of_z f.microsecond, to_z-of_z f.nanosecond) at most in
-    rw (p.1, p.2) (balance_count _ _ _ _ _ _ _ _ _ b _ time (rw (to_z-of_z f.year, to_z-of_z f.month, to_z-of_z f.day, days) at c.in_err-date.ensures))
+    rw (p.1, p.2) (count_handed_on _ _ _ _ _ _ _ _ _ b _ time (rw (to_z-of_z f.year, to_z-of_z f.month, to_z-of_z f.day, days) at c.in_err-date.ensures))
 
 pub returns : goal.returns
 returns c =

@@ -4,7 +4,7 @@ use Rattle.std.proofs.lemmas.Bool.Decides.{nat_tests}
 use Rattle.std.proofs.Math.Seq.{length-take-le}
 use Rattle.lines.proofs.Words.{word_inside}
 use Rattle.writing.proofs.Writing.{nothing, wrote_as}
-use Rattle.requests.proofs.Laws.{few_letters, empty_reply, long_reply, text_reply, no_reply, good_reply, ready}
+use Rattle.requests.proofs.Laws.{empty_reply, long_reply, text_reply}
 use Rattle.requests.proofs.inner.reply.Goals as goal
 
 pub returns-then-is_empty : goal.returns-then-is_empty
@@ -20,24 +20,5 @@ pub returns-in_default : goal.returns-in_default
 returns-in_default c =
     (wrote_as c.answer_text.ensures.0 (text_reply _ (grind (arith, nat_tests)) (omega arith) c.word_end-end.result (omega arith) c.in_default.ensures), c.answer_text.ensures.1)
 
-pub numbers_of-requires : goal.numbers_of-requires
-numbers_of-requires c = (omega (arith, word_inside c.args.line.now), few_letters _ _ c.in-Some.ensures)
-
-pub returns-in_default-numbers_of : goal.returns-in_default-numbers_of
-returns-in_default-numbers_of c = (
-  wrote_as c.put_byte-in_default-numbers_of.ensures
-      (no_reply _ (grind (arith, nat_tests)) (omega arith) _ (omega arith) _ c.in-Some.ensures c.in_default-numbers_of.ensures),
-  omega (arith, c.put_byte-in_default-numbers_of.ensures.ends),
-)
-
 pub answer-requires : goal.answer-requires
-answer-requires c =
-    rw c.deref.ensures.0
-    (ready _ (grind (arith, nat_tests)) (omega arith) _ (omega arith) _ c.in-Some.ensures _ c.in-Some-numbers_of.ensures _ _ c.requires)
-
-pub returns : goal.returns
-returns c = (
-  wrote_as c.answer.ensures.wrote
-      (rw c.deref.ensures.0 (good_reply _ (grind (arith, nat_tests)) (omega arith) _ (omega arith) _ c.in-Some.ensures _ c.in-Some-numbers_of.ensures)),
-  c.answer.ensures.short,
-)
+answer-requires c = (omega arith, grind (arith, nat_tests), omega arith, c.in-Some.ensures, c.requires)

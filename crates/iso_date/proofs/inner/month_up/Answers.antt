@@ -2,7 +2,7 @@
 use Rattle.std.proofs.Common.{rules, ◌≡◌, w64, to_z, of_z, arith}
 use mir.Facts.{to_z-of_z}
 use Rattle.whole.proofs.Edges.{raise_room32}
-use Rattle.iso_date.proofs.inner.balance.Goals as goal
+use Rattle.iso_date.proofs.inner.month_up.Goals as goal
 
 pub raise-requires : goal.raise-requires
 raise-requires c =
