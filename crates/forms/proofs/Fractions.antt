@@ -1,22 +1,28 @@
 -- A fraction: the digits that stand there, filled up to nine when they are read, without the zeros at their end when they are written.
-use Prim.Native.Nat.{ℕ, zero, suc, ◌+◌, ◌-◌, ◌*◌, ◌/◌, ◌%◌, ◌^◌, ◌≤◌, ◌<◌}
+use Prim.Native.Nat.{ℕ, zero, suc, ◌+◌, ◌-◌, ◌*◌, ◌/◌, ◌%◌, ◌^◌, ◌≤◌, ◌<◌, min}
 use native.Mathlib.Omega.{arith}
+use native.Mathlib.Numerals.{add-one}
 use native.Mathlib.Nat.{pow-suc, add-zero, mul-one, mul_comm, mul_assoc, mul-lt-mul_of_pos_right}
 use lib.Pow.{pow-add}
 use mathlib.Core.Path.{◌≡◌, refl, sym, ap, ap₂, ◌∙◌}
 use mathlib.Core.Bool.{Bool, true, false}
+use mathlib.Core.Logic.{◌⊎◌, ⊎_elim}
 use mathlib.Core.List.{List, [], ◌∷◌, ◌++◌, append_assoc, append-nil}
-use borrow.Author.Tests.{le-leb, lt-leb, ne_eqb}
+use borrow.Author.Tests.{le-leb, lt-leb, leb-true, ne_eqb}
 use lib.Dec.{leb}
-use lib.ListN.{length, get_or, replicate, length-append}
-use Rattle.whole.proofs.Tests.{and_false}
-use Rattle.whole.proofs.Every.{every_equal}
+use lib.ListN.{length, get_or, drop, take, replicate, length-take}
+use Rattle.std.specs.Char.{is_ascii_digit}
+use Rattle.std.specs.List.{prefix_len}
+use Rattle.std.proofs.lemmas.List.{get_or-take, take_more}
+use Rattle.std.proofs.lemmas.List.Folds.{length-prefix_len}
+use Rattle.std.proofs.lemmas.List.Sums.{prefix_len-le-length, prefix_len_passes}
+use Rattle.whole.proofs.Tests.{and_false, both}
 use Rattle.lines.specs.Text.{digit_zero, is_digit}
-use Rattle.forms.specs.Forms.{Parsed, took, nothing, then_read, digit, digits, padded, run, filled, keep, trimmed, point, pointed, fraction_text}
+use Rattle.forms.specs.Forms.{Parsed, took, nothing, then_read, digits, padded, run, filled, keep, trimmed, point, pointed, fraction_text}
 use Rattle.forms.specs.Pieces.{Trims}
 use Rattle.forms.specs.declared.Trimmed.{Trimmed}
-use Rattle.forms.proofs.Digits.{some}
-use Rattle.forms.proofs.Padded.{never_took, padded_length, digit_is, digits_back, took_inj, digit_only, digits_only}
+use Rattle.forms.proofs.Digits.{grows, some}
+use Rattle.forms.proofs.Padded.{padded_length, digit_is, digits_back, took_inj}
 
 -- ---- the digits that stand there
 
@@ -47,13 +53,6 @@ run_padded (suc n) v rest =
 
 -- ---- filled up
 
-abbrev places : List ℕ
-places =
-    1_000_000_000 ∷ 100_000_000 ∷ 10_000_000 ∷ 1_000_000 ∷ 100_000 ∷ 10_000 ∷ 1_000 ∷ 100 ∷ 10 ∷ 1 ∷ []
-
-pub place_is : (i : ℕ) → i ≤ 9 → get_or places i 0 ≡ 10 ^ (9 - i)
-place_is i h = every_equal (λ k. get_or places k 0) (λ k. 10 ^ (9 - k)) 10 tt i (omega arith)
-
 -- zeros behind the digits
 zeros_behind : (k n v : ℕ) → padded n v ++ replicate k digit_zero ≡ padded (n + k) (v * 10 ^ k)
 unfolding padded
@@ -72,9 +71,6 @@ filled_small i v few small =
     let whole : 10 ^ 9 ≡ 10 ^ i * 10 ^ (9 - i) = ap (λ (k : ℕ). 10 ^ k) (sym e) ∙ pow-add 10 i (9 - i) in
     rw whole (mul-lt-mul_of_pos_right small (some (9 - i)))
 
-pub placed_small : (i v : ℕ) → i ≤ 9 → v < 10 ^ i → v * get_or places i 0 < 10 ^ 9
-placed_small i v few small = rw (place_is i few) (filled_small i v few small)
-
 pub filled_is : (i v : ℕ) (after : List ℕ) → 0 < i → i ≤ 9 → v < 10 ^ i → filled (padded i v) after ≡ took (v * 10 ^ (9 - i)) after
 unfolding filled
 filled_is i v after few many small =
@@ -84,54 +80,60 @@ filled_is i v after few many small =
     digits_back 9 (v * 10 ^ (9 - i)) [] (filled_small i v many small) in
     rw (padded_length i v, le-leb 1 i few, le-leb i 9 many, nine)
 
-filled_none : (i v : ℕ) (after : List ℕ) → i ≡ 0 → filled (padded i v) after ≡ nothing
-unfolding filled padded
-filled_none i v after e = rw e
+-- ---- as many as there are
 
--- one digit more than nine
-filled_many : (p : Parsed (List ℕ)) (v b : ℕ) →
-    then_read (then_read p (λ ds after. took (b ∷ ds) after)) (λ ds after. filled (padded 9 v ++ ds) after) ≡ nothing
-unfolding filled
-filled_many nothing v b = refl
-filled_many (took ds after) v b =
-    let long : 9 < length (padded 9 v ++ (b ∷ ds)) = rw (length-append (padded 9 v) (b ∷ ds), padded_length 9 v) (omega arith) in
-    rw (lt-leb (length (padded 9 v ++ (b ∷ ds))) 9 long) (rw (and_false (leb 1 (length (padded 9 v ++ (b ∷ ds))))))
+abbrev count : List ℕ → ℕ
+count text = prefix_len is_ascii_digit text
 
--- ---- the answers of the function that reads
+-- ten are too many already
+abbrev most : ℕ
+most = 10
 
-run_ends : (rest : List ℕ) → digit rest ≡ nothing → run rest ≡ took [] rest
-unfolding run digit
-run_ends [] none = refl
-run_ends (b ∷ rest) none = by_test (is_digit b) refl
+abbrev pub front : List ℕ → List ℕ
+front text = take most (take (count text) text)
+
+pub front_length : (text : List ℕ) → length (front text) ≡ min most (count text)
+front_length text = rw (length-take most (take (count text) text), length-prefix_len is_ascii_digit text)
+
+-- one more of them
+pub front_more : (n v b : ℕ) (text : List ℕ) → (n < length (front text)) × (b ≡ get_or (front text) n b) → take n text ≡ padded n v →
+    v < 10 ^ n → (take (n + 1) text ≡ padded (n + 1) (10 * v + (b - digit_zero))) × (10 * v + (b - digit_zero) < 10 ^ (n + 1))
+unfolding padded
+front_more n v b text next so_far small =
+    let many : n < min most (count text) = omega (arith, next.0, front_length text) in
+    let inside : n < length text = omega (arith, prefix_len-le-length is_ascii_digit text) in
+    let here : b ≡ get_or text n b =
+    next.1 ∙ get_or-take most (take (count text) text) n b (omega arith) ∙ get_or-take (count text) text n b (omega arith) in
+    let range = both (leb digit_zero b) (leb b 57) (rw here (prefix_len_passes is_ascii_digit text n b (omega arith))) in
+    let low = leb-true digit_zero b range.0 in
+    let few : b - digit_zero < 10 = omega (arith, leb-true b 57 range.1) in
+    let high : (10 * v + (b - digit_zero)) / 10 ≡ v = omega (arith, few) in
+    let last : digit_zero + (10 * v + (b - digit_zero)) % 10 ≡ b = omega (arith, few, low) in
+    (take_more text n b inside ∙ rw (← here, add-one n, high, last, so_far), grows n v (b - digit_zero) small few)
+
+run_is : (text : List ℕ) → run text ≡ took (take (count text) text) (drop (count text) text)
+unfolding run
+run_is [] = refl
+run_is (b ∷ rest) = by_test (is_digit b) refl (run_is rest)
   where
-    by_test : (t : Bool) → is_digit b ≡ t → run (b ∷ rest) ≡ took [] (b ∷ rest)
-    by_test false bad = rw bad
-    by_test true good = never_took (b - digit_zero) rest (sym none ∙ rw good)
+    by_test : (t : Bool) → is_digit b ≡ t → run rest ≡ took (take (count rest) rest) (drop (count rest) rest) →
+        run (b ∷ rest) ≡ took (take (count (b ∷ rest)) (b ∷ rest)) (drop (count (b ∷ rest)) (b ∷ rest))
+    by_test false e more = rw e
+    by_test true e more = let one : 1 + count rest ≡ suc (count rest) = omega arith in rw (e, one, more)
 
--- after i digits of the text
-module _ (text rest : List ℕ) (i v : ℕ) (so_far : digits i text ≡ took v rest) where
-  from_here : then_read (run text) filled ≡ then_read (run rest) (λ ds after. filled (padded i v ++ ds) after)
-  from_here = rw ((digits_only i text v rest so_far).0, run_padded i v rest) (joined (run rest))
-    where
-      joined : (p : Parsed (List ℕ)) → then_read (then_read p (λ ds after. took (padded i v ++ ds) after)) filled ≡
-          then_read p (λ ds after. filled (padded i v ++ ds) after)
-      joined nothing = refl
-      joined (took ds after) = refl
+pub no_fraction : (text : List ℕ) → count text ≡ 0 ⊎ 9 < count text → then_read (run text) filled ≡ nothing
+unfolding filled
+no_fraction text h =
+    let long : length (take (count text) text) ≡ count text = length-prefix_len is_ascii_digit text in
+    rw (run_is text, long)
+    (⊎_elim (λ z. let few : count text < 1 = omega arith in rw (lt-leb 1 (count text) few))
+    (λ many. rw (lt-leb (count text) 9 many, and_false (leb 1 (count text)))) h)
 
-  pub too_many : (d : ℕ) (after : List ℕ) → i ≡ 9 → digit rest ≡ took d after → then_read (run text) filled ≡ nothing
-  too_many d after e more =
-      let next = digit_only rest d after more in
-      from_here ∙ rw (next.0, run_goes (digit_zero + d) after (digit_is d next.1), e) (filled_many (run after) v (digit_zero + d))
-
-  -- what is made of the digits where no more follow
-  all_read : digit rest ≡ nothing → then_read (run text) filled ≡ filled (padded i v) rest
-  all_read none = from_here ∙ rw (run_ends rest none, append-nil (padded i v))
-
-  pub none_read : i ≡ 0 → digit rest ≡ nothing → then_read (run text) filled ≡ nothing
-  none_read e none = all_read none ∙ filled_none i v rest e
-
-  pub some_read : 0 < i → i ≤ 9 → v < 10 ^ i → digit rest ≡ nothing → then_read (run text) filled ≡ took (v * get_or places i 0) rest
-  some_read some few small none = all_read none ∙ rw (place_is i few) (filled_is i v rest some few small)
+pub all_filled : (n v : ℕ) (text : List ℕ) → n ≡ min most (count text) → 0 < n → n ≤ 9 → take n text ≡ padded n v → v < 10 ^ n →
+    then_read (run text) filled ≡ took (v * 10 ^ (9 - n)) (drop n text)
+all_filled n v text e some few read small =
+    let all : count text ≡ n = omega arith in
+    rw (run_is text, all, read) (filled_is n v (drop n text) some few small)
 
 -- ---- without the zeros at the end
 

@@ -67,7 +67,7 @@ took_inj a b s t e = (cc, cc)
 pub never_took : {A B : Type 0} (a : A) (s : List ℕ) → ◌≡◌ {A = Parsed A} nothing (took a s) → B
 never_took a s e = let z : ◌≡◌ {A = ℕ} 0 1 = cc in let f : ⊥ = omega arith in absurd f
 
-pub digit_only : (rest : List ℕ) (d : ℕ) (after : List ℕ) → digit rest ≡ took d after → (rest ≡ (digit_zero + d) ∷ after) × (d < 10)
+digit_only : (rest : List ℕ) (d : ℕ) (after : List ℕ) → digit rest ≡ took d after → (rest ≡ (digit_zero + d) ∷ after) × (d < 10)
 unfolding digit
 digit_only [] d after e = never_took d after e
 digit_only (b ∷ rest) d after e = by_test (is_digit b) refl

@@ -10,20 +10,6 @@ ghost use Rattle.forms.specs.Pieces.{of_read, Trims};
 use crate::Trimmed;
 use writing::inner::put_byte;
 
-// How many billionths the last of n digits of a fraction counts: 10 to the power of the digits that are missing from nine.
-const PLACES: [u64; 10] = [
-    1_000_000_000,
-    100_000_000,
-    10_000_000,
-    1_000_000,
-    100_000,
-    10_000,
-    1_000,
-    100,
-    10,
-    1,
-];
-
 // n digits, as the number that they say. 64 bits hold any number of 18.
 #[tactic(auto, using(crate::proofs::Digits::no_digit, crate::proofs::Digits::next_digit, crate::proofs::Digits::grows), unfolding(crate::specs::Forms::digits))]
 pub fn read_digits(text: &[u8], n: usize) -> Option<(u64, &[u8])>
@@ -73,26 +59,21 @@ pub fn read_fraction(text: &[u8]) -> Option<(u64, &[u8])>
 }
 
 // All digits that stand there, as billionths, where there are one to nine. A tenth ends the walk.
-#[tactic(auto, using(crate::proofs::Digits::next_digit, crate::proofs::Digits::grows, crate::proofs::Fractions::too_many, crate::proofs::Fractions::none_read, crate::proofs::Fractions::some_read, crate::proofs::Fractions::placed_small), unfolding(crate::specs::Forms::digits))]
+#[tactic(auto, using(crate::proofs::Fractions::filled_small), unfolding(crate::specs::Forms::padded))]
 fn billionths(text: &[u8]) -> Option<(u64, &[u8])>
     ensures takes { of_read result ≡ then_read (run text.now) filled }
     ensures small { IfSome result (λ p. p.0 < 10 ^ 9) }
 {
     let mut value = 0;
     let mut count = 0;
-    let mut rest = text;
-    while let Some((digit, after)) = read_digit(rest) {
-        if count == 9 {
-            return None;
-        }
-        value = 10 * value + digit;
+    for b in text.iter().take_while(|b| b.is_ascii_digit()).take(10) {
+        value = 10 * value + (*b - b'0') as u64;
         count += 1;
-        rest = after;
     }
-    if count == 0 {
+    if count == 0 || 9 < count {
         return None;
     }
-    Some((value * PLACES[count], rest))
+    Some((value * 10u64.pow(9 - count as u32), &text[count..]))
 }
 
 // Writes the last n digits of a number, from the last to the first.

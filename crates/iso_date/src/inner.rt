@@ -83,7 +83,7 @@ pub fn is_leap(u: u64) -> bool
     (u % 4 == 0) & ((u % 100 != 0) | (u % 400 == 0))
 }
 
-// The length of month m, counted from 1. February alone asks what the year is, so that for no other month a year is divided.
+// The length of month m, counted from 1. February alone asks whether the year is a leap year.
 pub fn month_days(leap: bool, m: u8) -> u8
     requires { (1 ≤ m) × (m ≤ 12) }
     ensures { (result ≡ get_or (month_lengths leap) (m - 1) 0) × (result ≤ 31) }

@@ -55,7 +55,8 @@ pub fn is_within_limits(date: ValidDate, time: ValidTime) -> bool
 
 // A record held to the limits (3).
 pub fn limited(date: ValidDate, time: ValidTime) -> Result<IsoDateTime, Refusal>
-    ensures { answer_of result ≡ check (iso_date_time_within_limits (date_time date.date time.time)) 3 (given (date_time date.date time.time)) }
+    ensures { answer_of result ≡ check (iso_date_time_within_limits (date_time date.date time.time)) 3
+        (given (date_time date.date time.time)) }
 {
     if is_within_limits(date, time) {
         Ok(IsoDateTime {

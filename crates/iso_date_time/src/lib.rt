@@ -42,6 +42,7 @@ pub struct DateTimeDifference {
 
 impl IsoDateTime {
     // The record as one that may stand: the fields of its date, then of its time (1), then the limits (3).
+    // Inlined, so that the record is not handed back through memory.
     #[inline(always)]
     #[tactic(auto, using(crate::proofs::Moments::limits_ways))]
     pub fn within_limits(self) -> Result<ValidDateTime, Refusal>

@@ -1,18 +1,22 @@
 -- Times as one number: fields and nanoseconds, and the balance of six fields.
-use Prim.Native.Nat.{ℕ, ◌+◌, ◌*◌, ◌/◌, ◌%◌, ◌≤◌, ◌<◌}
-use native.Mathlib.Nat.{mod-lt, div-add-mod}
+use Prim.Native.Nat.{ℕ, ◌+◌, ◌-◌, ◌*◌, ◌/◌, ◌%◌, ◌^◌, ◌≤◌, ◌<◌}
+use native.Mathlib.Nat.{mod-lt, div-add-mod, div-le_of_le-mul}
 use native.Mathlib.Omega.{arith}
 use mathlib.Core.Path.{◌≡◌, refl, sym, ◌∙◌, ap, ap₂}
 use mathlib.Core.Bool.{true, ◌&&◌}
 use borrow.Author.Tests.{leb-true, le-leb}
 use lib.Dec.{leb}
-use lib.IntN.{ℤ, pos, neg_ℤ, ◌+ℤ◌, ◌-ℤ◌, ◌*ℤ◌}
+use lib.Signed.{◌≤ℤ◌, ◌<ℤ◌}
+use lib.IntN.{ℤ, pos, negsuc, neg_ℤ, nat_abs, ◌+ℤ◌, ◌-ℤ◌, ◌*ℤ◌}
+use mir.Facts.{to_z-of_z}
+use mir.Syntax.{w64}
+use mir.Val.{SFits, to_z, of_z}
 use Rattle.options.specs.Units.{ns_per_day}
 use Rattle.whole.specs.Whole.{◌⊖◌, fdiv, fmod}
-use Rattle.whole.proofs.Laws.{parts, whole, ints, ⊖-sum, fdiv_fmod, fdiv_unique, fmod_lt, quotient, of_pos, read_add, read_neg}
+use Rattle.whole.proofs.Laws.{size_of, range_of, parts, whole, ints, ⊖-sum, ⊖-same, fdiv_fmod, fdiv_unique, fmod_lt, quotient, of_pos, read_add, read_neg, read_diff}
 use Rattle.whole.proofs.Tests.{both, and_assoc}
 use Rattle.iso_time.specs.Proposal.{time, is_valid_time, balanced, balance_time, nanoseconds}
-use Rattle.iso_time.specs.Inner.{field_bias}
+use Rattle.iso_time.specs.Inner.{Within, AllWithin, field_bias}
 use Rattle.iso_time.specs.Claims.{exact, flat}
 use Rattle.iso_time.specs.declared.IsoTime.{IsoTime}
 use Rattle.iso_time.specs.declared.BalancedTime.{BalancedTime}
@@ -96,7 +100,7 @@ time_back t v =
     let q5 = quotient 60 (t.hour * 60 + t.minute) t.hour t.minute (omega arith) (omega arith) in
     rw (q1.0, q1.1, q2.0, q2.1, q3.0, q3.1, q4.0, q4.1, q5.0, q5.1)
 
--- ---- the balance of six fields, each raised by the same natural
+-- ---- the balance of six fields
 
 -- a number raised by a multiple of d
 stage : (z : ℤ) (n k d : ℕ) → 0 < d → z ≡ n ⊖ (d * k) → (fdiv z d ≡ (n / d) ⊖ k) × (fmod z d ≡ n % d)
@@ -104,32 +108,92 @@ stage z n k d p e =
     fdiv_unique z ((n / d) ⊖ k) d (n % d) (mod-lt n p)
     (e ∙ sym (rw (of_pos d, of_pos (n % d)) (simp whole (omega (arith, div-add-mod n d)))))
 
-module _ (h m s ms us ns : ℤ) (n0 a1 a2 a3 a4 a5 : ℕ)
-    (e0 : ns ≡ n0 ⊖ field_bias) (e1 : us ≡ a1 ⊖ field_bias) (e2 : ms ≡ a2 ⊖ field_bias) (e3 : s ≡ a3 ⊖ field_bias)
-    (e4 : m ≡ a4 ⊖ field_bias) (e5 : h ≡ a5 ⊖ field_bias) where
-  pub balance_is : (days : ℤ) → days ≡ ((a5 + (a4 + (a3 + (a2 + (a1 + n0 / 1000) / 1000) / 1000) / 60) / 60) / 24) ⊖ 457625125125125 →
-      balanced days
-      (time ((a5 + (a4 + (a3 + (a2 + (a1 + n0 / 1000) / 1000) / 1000) / 60) / 60) % 24) ((a4 + (a3 + (a2 + (a1 + n0 / 1000) / 1000) / 1000) / 60) % 60)
-      ((a3 + (a2 + (a1 + n0 / 1000) / 1000) / 1000) % 60) ((a2 + (a1 + n0 / 1000) / 1000) % 1000) ((a1 + n0 / 1000) % 1000) (n0 % 1000)) ≡
-      balance_time h m s ms us ns
+small_fits : (z : ℤ) → nat_abs z ≤ 2 ^ 60 → SFits w64 z
+small_fits z low = omega (arith, low, size_of z, range_of z)
+
+-- a quotient is again small enough to be carried
+quotient_low : (z : ℤ) (d : ℕ) → 24 ≤ d → nat_abs z ≤ 2 ^ 54 → nat_abs (fdiv z d) ≤ 2 ^ 50
+unfolding fdiv
+quotient_low (pos n) d few low = div-le_of_le-mul d (omega arith)
+quotient_low (negsuc n) d few low =
+    let below : n / d ≤ 2 ^ 50 - 1 = div-le_of_le-mul d (omega arith) in
+    omega arith
+
+-- a number as a local hands it back
+abbrev held : ℤ → ℤ
+held z = to_z w64 (of_z w64 z)
+
+-- what a carry asks of its numbers
+abbrev Asked : ℤ → ℤ → ℕ → Type 0
+Asked x y d = (Within x × (nat_abs y ≤ 2 ^ 50)) × ((24 ≤ d) × ((d ≤ 1000) × (field_bias % d ≡ 0)))
+
+pub raises : (x y : ℤ) (k d : ℕ) → Asked x y d → (x ≡ k ⊖ field_bias) × (k < 20000000000000000) →
+    (k < 2 ^ 63) × (((0 ⊖ k) ≤ℤ held y) × (held y <ℤ ((2 ^ 63) ⊖ k)))
+raises x y k d asked up =
+    let g : held y ≡ y = to_z-of_z (small_fits y (omega (arith, asked))) in
+    let least : 2 ^ 50 ≤ k = omega (arith, ints, asked, up, size_of x, range_of x, read_diff k field_bias) in
+    rw g (
+      omega (arith, up),
+      (omega (arith, ints, asked, least, size_of y, range_of y, read_diff 0 k), omega (arith, ints, asked, up, size_of y, range_of y, read_diff (2 ^ 63) k)),
+    )
+
+-- what the code's carry hands back
+pub record Carry (x y q : ℤ) (up d : ℕ) : Type 0 where
+  pub carried : held q ≡ fdiv (x +ℤ y) d
+  pub low : nat_abs (held q) ≤ 2 ^ 50
+  pub left : up % d ≡ fmod (x +ℤ y) d
+  pub few : up % d < d
+
+pub carry_is : (x y q : ℤ) (k up d : ℕ) → Asked x y d → x ≡ k ⊖ field_bias → held y ≡ up ⊖ k → q ≡ (up / d) ⊖ (field_bias / d) →
+    Carry x y q up d
+carry_is x y q k up d asked e f p =
+    let z : ℤ = x +ℤ y in
+    let some : 0 < d = omega (arith, asked) in
+    let small : nat_abs z ≤ 2 ^ 54 = omega (arith, asked, size_of x, size_of y, size_of z, range_of z, read_add x y) in
+    let g : y ≡ up ⊖ k = sym (to_z-of_z (small_fits y (omega (arith, asked)))) ∙ f in
+    let sum : z ≡ up ⊖ field_bias = ⊖-sum x y k field_bias up k e g ∙ ⊖-same _ _ _ _ (omega arith) in
+    let whole_d : field_bias ≡ d * (field_bias / d) = omega (arith, div-add-mod field_bias d, asked) in
+    let by = stage z up (field_bias / d) d some (sum ∙ ap (λ (n : ℕ). up ⊖ n) whole_d) in
+    let l : nat_abs (fdiv z d) ≤ 2 ^ 50 = quotient_low z d (asked.1.0) small in
+    let same : held q ≡ fdiv z d = rw (p ∙ sym by.0) (to_z-of_z (small_fits (fdiv z d) (omega (arith, l)))) in
+    record { carried = same; low = rw same l; left = sym by.1; few = mod-lt up some }
+
+-- what a carry's contract says of the locals
+pub record Step (x y : ℤ) (d : ℕ) (q : ℤ) (r : ℕ) : Type 0 where
+  pub carried : (q ≡ fdiv (held x +ℤ held y) d) × (nat_abs q ≤ 2 ^ 50)
+  pub left : (r ≡ fmod (held x +ℤ held y) d) × (r < d)
+
+-- and so of the field, and of what the step before carries into it
+step : (x y over q : ℤ) (d r : ℕ) → Within x → nat_abs y ≤ 2 ^ 50 → y ≡ over → Step x y d q r →
+    (q ≡ fdiv (x +ℤ over) d) × (r ≡ fmod (x +ℤ over) d)
+step x y over q d r within low e s =
+    let f : held x ≡ x = to_z-of_z (small_fits x (omega (arith, within))) in
+    let g : held y ≡ over = to_z-of_z (small_fits y (omega (arith, low))) ∙ e in
+    (s.carried.0 ∙ rw (f, g), s.left.0 ∙ rw (f, g))
+
+nothing_over : (z : ℤ) → z +ℤ pos 0 ≡ z
+nothing_over z = omega (arith, ints, read_add z (pos 0))
+
+module _ (h m s ms us ns q0 q1 q2 q3 q4 q5 : ℤ) (r0 r1 r2 r3 r4 r5 : ℕ) (w : AllWithin h m s ms us ns)
+    (c0 : Step ns (pos 0) 1000 q0 r0) (c1 : Step us q0 1000 q1 r1) (c2 : Step ms q1 1000 q2 r2)
+    (c3 : Step s q2 60 q3 r3) (c4 : Step m q3 60 q4 r4) (c5 : Step h q4 24 q5 r5) where
+  pub balance_is : balanced (held q5) (time r5 r4 r3 r2 r1 r0) ≡ balance_time h m s ms us ns
   unfolding balance_time
-  balance_is days e =
-      let n1 : ℕ = a1 + n0 / 1000 in
-      let n2 : ℕ = a2 + n1 / 1000 in
-      let n3 : ℕ = a3 + n2 / 1000 in
-      let n4 : ℕ = a4 + n3 / 60 in
-      let n5 : ℕ = a5 + n4 / 60 in
-      let s0 = stage ns n0 10800000000000 1000 (omega arith) e0 in
-      let s1 = stage (us +ℤ fdiv ns 1000) n1 10810800000000 1000 (omega arith) (⊖-sum us (fdiv ns 1000) a1 field_bias (n0 / 1000) 10800000000000 e1 s0.0) in
+  balance_is =
       let us' : ℤ = us +ℤ fdiv ns 1000 in
-      let s2 = stage (ms +ℤ fdiv us' 1000) n2 10810810800000 1000 (omega arith) (⊖-sum ms (fdiv us' 1000) a2 field_bias (n1 / 1000) 10810800000000 e2 s1.0) in
       let ms' : ℤ = ms +ℤ fdiv us' 1000 in
-      let s3 = stage (s +ℤ fdiv ms' 1000) n3 180180180180000 60 (omega arith) (⊖-sum s (fdiv ms' 1000) a3 field_bias (n2 / 1000) 10810810800000 e3 s2.0) in
       let s' : ℤ = s +ℤ fdiv ms' 1000 in
-      let s4 = stage (m +ℤ fdiv s' 60) n4 183003003003000 60 (omega arith) (⊖-sum m (fdiv s' 60) a4 field_bias (n3 / 60) 180180180180000 e4 s3.0) in
       let m' : ℤ = m +ℤ fdiv s' 60 in
-      let s5 = stage (h +ℤ fdiv m' 60) n5 457625125125125 24 (omega arith) (⊖-sum h (fdiv m' 60) a5 field_bias (n4 / 60) 183003003003000 e5 s4.0) in
-      ap₂ balanced (e ∙ sym s5.0) (time_eq _ _ _ _ _ _ _ _ _ _ _ _ (sym s5.1) (sym s4.1) (sym s3.1) (sym s2.1) (sym s1.1) (sym s0.1))
+      let h' : ℤ = h +ℤ fdiv m' 60 in
+      let none = nothing_over ns in
+      let s0 = step ns (pos 0) (pos 0) q0 1000 r0 w.1.1.1.1.1 (omega arith) refl c0 in
+      let s1 = step us q0 (fdiv ns 1000) q1 1000 r1 w.1.1.1.1.0 c0.carried.1 (s0.0 ∙ rw none) c1 in
+      let s2 = step ms q1 (fdiv us' 1000) q2 1000 r2 w.1.1.1.0 c1.carried.1 s1.0 c2 in
+      let s3 = step s q2 (fdiv ms' 1000) q3 60 r3 w.1.1.0 c2.carried.1 s2.0 c3 in
+      let s4 = step m q3 (fdiv s' 60) q4 60 r4 w.1.0 c3.carried.1 s3.0 c4 in
+      let s5 = step h q4 (fdiv m' 60) q5 24 r5 w.0 c4.carried.1 s4.0 c5 in
+      let days : held q5 ≡ fdiv h' 24 = to_z-of_z (small_fits q5 (omega (arith, c5.carried.1))) ∙ s5.0 in
+      ap₂ balanced days (time_eq _ _ _ _ _ _ _ _ _ _ _ _ s5.1 s4.1 s3.1 s2.1 s1.1 (s0.1 ∙ rw none))
 
 -- ---- balancing is inverse to flattening: the exact nanoseconds stay as they are, and no other carry and time have them
 

@@ -1,7 +1,7 @@
-// Times as one number, the nanoseconds since midnight, fields raised to naturals, and the units that times are rounded to.
-ghost use Rattle.std.specs.Prelude.{◌≡◌, true, ◌≤◌, ◌<◌, pos, ◌-ℤ◌};
+// Times as one number, the nanoseconds since midnight, the balance of fields, and the units that times are rounded to.
+ghost use Rattle.std.specs.Prelude.{◌≡◌, true, ◌^◌, ◌%◌, ◌≤◌, ◌<◌, nat_abs, pos, ◌+ℤ◌, ◌-ℤ◌};
 ghost use Rattle.std.specs.Result.{result_map_both};
-ghost use Rattle.whole.specs.Whole.{◌⊖◌};
+ghost use Rattle.whole.specs.Whole.{◌⊖◌, fdiv, fmod};
 ghost use Rattle.refusal.specs.Refusals.{answer_of};
 ghost use Rattle.options.specs.Units.{ns_per_day};
 ghost use Rattle.iso_time.specs.Proposal.{is_valid_time, balance_time, nanoseconds, unit_length};
@@ -13,13 +13,8 @@ use options::Unit;
 use refusal::Refusal;
 use rounding::RoundingMode;
 
-// What a field to be balanced is raised by: more than its bound of 2^53 - 1, and such that whatever is divided on the way up is raised by
-// a multiple of the divisor. With B for it the quotients are raised by B / 1000 = 10_800_000_000_000,
-// (B + 10_800_000_000_000) / 1000 = 10_810_800_000_000, (B + 10_810_800_000_000) / 1000 = 10_810_810_800_000,
-// (B + 10_810_810_800_000) / 60 = 180_180_180_180_000 and (B + 180_180_180_180_000) / 60 = 183_003_003_003_000.
+// What a field to be balanced is raised by: more than its bound of 2^53 - 1 with what is carried into it, and a multiple of 1000, 60 and 24.
 const FIELD_BIAS: u64 = 10_800_000_000_000_000;
-// What the days are raised by at last: (B + 183_003_003_003_000) / 24.
-const DAYS_BIAS: u64 = 457_625_125_125_125;
 
 const NS_PER_DAY: u64 = 86_400_000_000_000;
 
@@ -101,26 +96,38 @@ pub fn balance(
     requires { AllWithin hour minute second millisecond microsecond nanosecond }
     ensures { result ≡ balance_time hour minute second millisecond microsecond nanosecond }
 {
-    let nanos = field_up(nanosecond);
-    let micros = field_up(microsecond) + nanos / 1000;
-    let millis = field_up(millisecond) + micros / 1000;
-    let secs = field_up(second) + millis / 1000;
-    let mins = field_up(minute) + secs / 60;
-    let hours = field_up(hour) + mins / 60;
+    let (micros, nanosecond) = carry(nanosecond, 0, 1000);
+    let (millis, microsecond) = carry(microsecond, micros, 1000);
+    let (seconds, millisecond) = carry(millisecond, millis, 1000);
+    let (minutes, second) = carry(second, seconds, 60);
+    let (hours, minute) = carry(minute, minutes, 60);
+    let (days, hour) = carry(hour, hours, 24);
     BalancedTime {
-        days: whole::inner::lower(hours / 24, DAYS_BIAS),
+        days,
         time: IsoTime {
-            hour: (hours % 24) as u8,
-            minute: (mins % 60) as u8,
-            second: (secs % 60) as u8,
-            millisecond: (millis % 1000) as u16,
-            microsecond: (micros % 1000) as u16,
-            nanosecond: (nanos % 1000) as u16,
+            hour: hour as u8,
+            minute: minute as u8,
+            second: second as u8,
+            millisecond,
+            microsecond,
+            nanosecond,
         },
     }
 }
 
-// A unit that a time is rounded to: its length in nanoseconds, and how many of it make the next, 1 for day, which has no next.
+// A field with what is carried into it: how many whole d it holds, rounded down, which are carried into the next, and what is left.
+fn carry(field: i64, over: i64, d: u64) -> (i64, u16)
+    requires { (Within field × (nat_abs over ≤ 2 ^ 50)) × ((24 ≤ d) × ((d ≤ 1000) × (field_bias % d ≡ 0))) }
+    ensures carried { (result.0 ≡ fdiv (field +ℤ over) d) × (nat_abs result.0 ≤ 2 ^ 50) }
+    ensures left { (result.1 ≡ fmod (field +ℤ over) d) × (result.1 < d) }
+{
+    let up = whole::inner::raise(over, field_up(field));
+    let carried = whole::inner::lower(up / d, FIELD_BIAS / d);
+    (carried, (up % d) as u16)
+}
+
+// A unit that a time is rounded to: its length in nanoseconds, and how many of it make the next, 1 for day, which has no next. Both are 0
+// for a unit that a time is not rounded to.
 #[derive(Clone, Copy, Debug, PartialEq, Eq)]
 pub struct Scale {
     pub length: u64,

@@ -102,7 +102,7 @@ pub fn takes_up(rule: UnsignedRoundingMode, odd: bool, down: u64, above: u64) ->
     }
 }
 
-// The same for half-even. No guard in the match above: that became a branch, which a random time mispredicts every second time.
+// The same for half-even. As guards in the match above the two tests became branches, which random numbers mispredict.
 fn past_half_or_odd(odd: bool, down: u64, above: u64) -> bool
     ensures { result ≡ cond odd (leb above down) (ltb above down) }
 {

@@ -1,17 +1,13 @@
--- Each field is raised by a multiple of its divisor, so quotient and remainder are the floor's.
-use Rattle.std.proofs.Common.{sym, ◌∙◌, w64}
-use mir.Facts.{to_z-of_z}
+-- Each field with what is carried into it, in turn.
 use Rattle.iso_time.proofs.Times.{balance_is}
 use Rattle.iso_time.proofs.inner.balance.Goals as goal
 
 pub returns : goal.returns
 returns c =
-    let f = c.ranges in
-    balance_is _ _ _ _ _ _ _ _ _ _ _ _
-    (sym (to_z-of_z f.nanosecond) ∙ c.field_up-nanos.ensures.0)
-    (sym (to_z-of_z f.microsecond) ∙ c.field_up.ensures.0)
-    (sym (to_z-of_z f.millisecond) ∙ c.field_up-2.ensures.0)
-    (sym (to_z-of_z f.second) ∙ c.field_up-3.ensures.0)
-    (sym (to_z-of_z f.minute) ∙ c.field_up-4.ensures.0)
-    (sym (to_z-of_z f.hour) ∙ c.field_up-5.ensures.0)
-    _ (to_z-of_z {w = w64} (record { sfits = c.lower.type_inv }) ∙ c.lower.ensures)
+    balance_is _ _ _ _ _ _ _ _ _ _ _ _ _ _ _ _ _ _ c.requires
+    (record { carried = c.carry-micros.ensures.carried; left = c.carry-micros.ensures.left })
+    (record { carried = c.carry-millis.ensures.carried; left = c.carry-millis.ensures.left })
+    (record { carried = c.carry-seconds.ensures.carried; left = c.carry-seconds.ensures.left })
+    (record { carried = c.carry-minutes.ensures.carried; left = c.carry-minutes.ensures.left })
+    (record { carried = c.carry-hours.ensures.carried; left = c.carry-hours.ensures.left })
+    (record { carried = c.carry-days.ensures.carried; left = c.carry-days.ensures.left })
