@@ -13,7 +13,7 @@ use options::Unit;
 use refusal::Refusal;
 use rounding::RoundingMode;
 
-// What a field to be balanced is raised by: more than its bound of 2^53 - 1 with what is carried into it, and a multiple of 1000, 60 and 24.
+// What a field to be balanced is raised by: more than its bound of 2^53 - 1 with what is carried into it, and a multiple of each divisor.
 const FIELD_BIAS: u64 = 10_800_000_000_000_000;
 
 const NS_PER_DAY: u64 = 86_400_000_000_000;
