@@ -102,7 +102,7 @@ pub fn takes_up(rule: UnsignedRoundingMode, odd: bool, down: u64, above: u64) ->
     }
 }
 
-// The same for half-even. As guards in the match above the two tests became branches, which random numbers mispredict.
+// The same for half-even. With `odd` as a guard in the match above this became a branch, which a processor mispredicts on random numbers.
 fn past_half_or_odd(odd: bool, down: u64, above: u64) -> bool
     ensures { result ≡ cond odd (leb above down) (ltb above down) }
 {
